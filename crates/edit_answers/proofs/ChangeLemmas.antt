@@ -248,19 +248,19 @@ on-done A B (Ok v) f h = f h
 on-done A B (Err e) f h = tt
 
 -- weaker conditions on the writes, if the contents of the files are known
-pub weakened-told : {T : Type 0} (P P' : T → List ℕ → List ℕ → Type 0) (Q Q' : List ℕ → List ℕ → Type 0)
+pub weakened-known : {T : Type 0} (P P' : T → List ℕ → List ℕ → Type 0) (Q Q' : List ℕ → List ℕ → Type 0)
     (a b : StoreView) (r : Result T Error)
     → (a.tells ≡ true → (v : T) (path bytes : List ℕ) → P v path bytes → P' v path bytes)
     → (a.tells ≡ true → (path bytes : List ℕ) → Q path bytes → Q' path bytes) → Changes P Q a b r
     → Changes P' Q' a b r
-weakened-told P P' Q Q' a b (Ok v) wp wq step = record {
+weakened-known P P' Q Q' a b (Ok v) wp wq step = record {
   tells = step.tells;
   later = step.later;
   done = λ t. keeps-weaker (P v) (P' v) (wp t v) a.file_at b.file_at (step.done t);
   torn = tt;
   error = tt;
 }
-weakened-told P P' Q Q' a b (Err e) wp wq step = record {
+weakened-known P P' Q Q' a b (Err e) wp wq step = record {
   tells = step.tells;
   later = step.later;
   done = tt;

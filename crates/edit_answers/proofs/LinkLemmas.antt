@@ -64,9 +64,9 @@ module _ {T : Type 0} (P : T → List ℕ → List ℕ → Type 0) (Q : List ℕ
   }
 
 -- the result of the link
-pub links-told : (from to path : List ℕ) (a b : StoreView) (linked : Bool) (had r : Outcome) (lost : Failure)
+pub links-by : (from to path : List ℕ) (a b : StoreView) (linked : Bool) (had r : Outcome) (lost : Failure)
     → Links from to a b (Ok linked) → from ≡ path → r ≡ by_link linked had lost → a.tells ≡ true
     → r ≡ by_cached (a.file_at path) had lost
-links-told from to path a b linked had r lost link is so t =
+links-by from to path a b linked had r lost link is so t =
     so ∙ (by_link-cached from to a.file_at b.file_at linked had lost (link.linked t)
     ∙ ap (λ p. by_cached (a.file_at p) had lost) is)

@@ -188,9 +188,9 @@ module _ (all : List AgedText) (i : ℕ) (t : AgedText) (within : i < length all
       (of-same false unused x) ∙ sym (more x)) all
 
   -- a file that stays
-  pub kept-more : (now : List AgedText) → is_used all (owner_of t) ≡ true → now ≡ filter (stays_at all i) all
+  pub unchanged-more : (now : List AgedText) → is_used all (owner_of t) ≡ true → now ≡ filter (stays_at all i) all
       → now ≡ filter (stays_at all (i + 1)) all
-  kept-more now used e =
+  unchanged-more now used e =
       e ∙ filter-same (stays_at all i) (stays_at all (i + 1))
       (λ x. one-stays (is_used all (owner_of x)) (list_any (λ u. is_same u x) (take i all)) (is_same t x)
       (of-same true used x) ∙ sym (more x)) all
@@ -215,7 +215,7 @@ module _ (all : List AgedText) (i : ℕ) (t : AgedText) (within : i < length all
   pub stays-step : (b : Bool) (mid new : AgingView) (r : Result Unit Error) → RemovesUnused b t mid new r
       → b ≡ is_used all (owner_of t) → mid.tells ≡ true
       → remaining_files all new.files ≡ remaining_files all mid.files
-  stays-step true mid new r h used tells = ap (remaining_files all) (h.kept refl tells)
+  stays-step true mid new r h used tells = ap (remaining_files all) (h.unchanged refl tells)
   stays-step false mid new r h used tells =
       ⊎_elim (λ same. ap (remaining_files all) same)
       (λ removed. stays-more all i t within is mid.files new.files (sym used) removed) (h.changed tells)
@@ -224,6 +224,6 @@ module _ (all : List AgedText) (i : ℕ) (t : AgedText) (within : i < length all
       → b ≡ is_used all (owner_of t) → mid.tells ≡ true → (IsRaisedCount mid.faults new.faults → ⊥)
       → mid.files ≡ filter (stays_at all i) all → new.files ≡ filter (stays_at all (i + 1)) all
   gone-step true mid new h used tells none e =
-      h.kept refl tells ∙ kept-more all i t within is mid.files (sym used) e
+      h.unchanged refl tells ∙ unchanged-more all i t within is mid.files (sym used) e
   gone-step false mid new h used tells none e =
       gone-more all i t within is mid.files new.files (sym used) (h.gone refl tells none) e

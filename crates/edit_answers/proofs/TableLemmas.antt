@@ -52,12 +52,12 @@ taken-free o a e f = cc
 free-before : (old new : List (Option Answer)) (k : ℕ) → length new ≡ length old
     → ((k : ℕ) (a : Answer) → slice_get old k ≡ Some (Some a) → slice_get new k ≡ Some (Some a))
     → slice_get new k ≡ Some None → slice_get old k ≡ Some None
-free-before old new k count kept free = cases (slice_get old k) refl
+free-before old new k count preserved free = cases (slice_get old k) refl
   where
     cases : (o : Option (Option Answer)) → slice_get old k ≡ o → slice_get old k ≡ Some None
     cases None is = absurd (got-within old k is (subst (λ n. k < n) count (within-got new k None free)))
     cases (Some None) is = is
-    cases (Some (Some a)) is = absurd (taken-free (slice_get new k) a (kept k a is) free)
+    cases (Some (Some a)) is = absurd (taken-free (slice_get new k) a (preserved k a is) free)
 
 -- one outcome more
 pub one-first : (text rest line after : List ℕ) (old new : List (Option Answer)) (number : ℕ)
@@ -67,7 +67,7 @@ pub one-first : (text rest line after : List ℕ) (old new : List (Option Answer
     → (slice_get old k ≡ Some (Some a)) ⊎ ((k + 1 ≡ number) × (a ≡ answer)))
     → ((k : ℕ) (a : Answer) → slice_get old k ≡ Some (Some a) → slice_get new k ≡ Some (Some a))
     → length new ≡ length old → AreFirst text old → AreFirst text new
-one-first text rest line after old new number answer so cut none says put kept count firsts k a e =
+one-first text rest line after old new number answer so cut none says put preserved count firsts k a e =
     ⊎_elim (λ was. firsts k a was) (λ is. cases is (slice_get old k) refl) (put k a e)
   where
     cases : (k + 1 ≡ number) × (a ≡ answer) → (o : Option (Option Answer)) → slice_get old k ≡ o
@@ -80,15 +80,15 @@ one-first text rest line after old new number answer so cut none says put kept c
         (subst (λ n. IsAnswerLine line n answer) (sym is.0) says))))
     cases is (Some (Some b)) was =
         firsts k a (subst (λ x. slice_get old k ≡ Some (Some x))
-        (one-answer (slice_get new k) b a (kept k b was) e) was)
+        (one-answer (slice_get new k) b a (preserved k b was) e) was)
 
 -- a line further, which is found
 pub line-on : (text rest line after : List ℕ) (old new : List (Option Answer)) → IsRest text rest old
     → rest ≡ line ++ 10 ∷ after → HasNo 10 line → length new ≡ length old
     → ((k : ℕ) (a : Answer) → slice_get old k ≡ Some (Some a) → slice_get new k ≡ Some (Some a))
     → IsFound line new → IsRest text after new
-line-on text rest line after old new so cut none count kept is = record {
-  firsts = λ k a free h. so.firsts k a (free-before old new k count kept free)
+line-on text rest line after old new so cut none count preserved is = record {
+  firsts = λ k a free h. so.firsts k a (free-before old new k count preserved free)
       (subst (IsFirst (k + 1) a) (sym cut) (behind line after none
       (λ b says.
       let one = is k b (within-got new k None free) says in
@@ -97,7 +97,7 @@ line-on text rest line after old new so cut none count kept is = record {
       (λ in_rest. ⊎_elim (λ same. inr (subst (λ x. IsFound x new) (sym same) is)) (λ in_after. inl in_after)
       (line-cases l line after none (subst (HasLine l) cut in_rest)))
       (λ was. inr (λ k a w says.
-      let one = was k a (subst (λ n. k < n) count w) says in (one.0, kept k one.0 one.1)))
+      let one = was k a (subst (λ n. k < n) count w) says in (one.0, preserved k one.0 one.1)))
       (so.found l h);
 }
 
@@ -143,8 +143,8 @@ has-got (None ∷ xs) zero d e w = cc
 has-got (Some a ∷ xs) zero d e w = (a, refl)
 has-got (x ∷ xs) (suc k) d e w = has-got xs k d e (omega arith)
 
-pub has-kept : (xs : List (Option Answer)) (number : ℕ) (o d : Option Answer) (k : ℕ) → is_some o ≡ true
+pub has-before : (xs : List (Option Answer)) (number : ℕ) (o d : Option Answer) (k : ℕ) → is_some o ≡ true
     → o ≡ get_or xs (number - 1) d → k + 1 ≡ number → k < length xs → HasAnswerAt xs k
-has-kept xs number o d k some is e w =
+has-before xs number o d k some is e w =
     let at : number - 1 ≡ k = omega (arith, e) in
     has-got xs k d (subst (λ i. is_some (get_or xs i d) ≡ true) at (subst (λ x. is_some x ≡ true) is some)) w

@@ -81,7 +81,7 @@ pub record RemovesUnused (is_used : Bool) (a : AgedText) (old new : AgingView) (
     : Type 0 where
   pub tells : new.tells ≡ old.tells
   pub later : old.faults ≤ new.faults
-  pub kept : is_used ≡ true → old.tells ≡ true → new.files ≡ old.files
+  pub unchanged : is_used ≡ true → old.tells ≡ true → new.files ≡ old.files
   pub changed : old.tells ≡ true
       → (new.files ≡ old.files) ⊎ (new.files ≡ filter (λ b. not (is_same a b)) old.files)
   pub gone : is_used ≡ false → OnOk result (old.tells ≡ true → (IsRaisedCount old.faults new.faults → ⊥)

@@ -10,20 +10,20 @@ use Rattle.std.proofs.lemmas.List.MinMax.{ranks_by}
 use Rattle.std.proofs.lemmas.Option.{slice_get-get_or}
 use Rattle.semver.specs.Parse.{Parts}
 use Rattle.edit_version.specs.Admissible.{admissible_in, candidate_in, entry_order, is_qualifying}
-use Rattle.edit_version.specs.Greatest.{IsGreatest, IsGreatestKept}
+use Rattle.edit_version.specs.Greatest.{IsGreatest, IsGreatestItem}
 use Rattle.edit_version.specs.IndexEntry.{IndexEntry}
 use Rattle.edit_version.specs.RustVersions.{Numbers}
 use Rattle.edit_version.specs.VersionOrder.{full_order}
 use Rattle.edit_version.proofs.GreatestEntries.{greatest-versions, none-versions}
-use Rattle.edit_version.proofs.Kept.{admissible-version}
+use Rattle.edit_version.proofs.QualifyingEntries.{admissible-version}
 use Rattle.edit_version.proofs.Orders.{full_total}
 use Rattle.edit_cache.specs.Ranking.{IsRanking, rank_order}
 use Rattle.edit_cache.specs.Ranks.{Ranking, passes}
-use Rattle.edit_cache.proofs.RankedEntryLemmas.{rank_total, IsFirst, first_found, none_found, any_all, slice_get-take, slice_get-drop, parted, Told, told, tells-version, order_by_version, kept-passes, kept-read, decide, le_or_lt, same_place, sorted_order}
+use Rattle.edit_cache.proofs.RankedEntryLemmas.{rank_total, IsFirst, first_found, none_found, any_all, slice_get-take, slice_get-drop, parted, HasEntry, entry_of_rank, tells-version, order_by_version, qualifies-passes, qualifies-read, decide, le_or_lt, same_place, sorted_order}
 
 -- a rank beside the first one that passes: the entry of a rank that does not pass or does not come before it
 abbrev Beside : List IndexEntry → (Ranking → Bool) → Ranking → Ranking → Type 0
-Beside entries p r s = Told entries s × ((p s ≡ false) ⊎ (is_lt (rank_order s r) ≡ false))
+Beside entries p r s = HasEntry entries s × ((p s ≡ false) ⊎ (is_lt (rank_order s r) ≡ false))
 
 beside : (entries : List IndexEntry) (ranks : List Ranking) (p : Ranking → Bool) (r : Ranking)
     → IsRanking entries ranks → IsFirst p ranks r → All (Beside entries p r) ranks
@@ -32,21 +32,21 @@ beside entries ranks p r g f k d within = elim (le_or_lt f.at k) [
       let sorted : is_lt (rank_order (get_or ranks k d) (get_or ranks f.at d)) ≡ false =
       sorted_far (λ a b. is_lt (rank_order a b)) (ranks_by rank_total (λ (s : Ranking). s)) ranks
       (sorted_order ranks g.order) f.at k d after within in (
-        told entries (get_or ranks k d) (g.tells k d within),
+        entry_of_rank entries (get_or ranks k d) (g.tells k d within),
         inr (subst (λ s. is_lt (rank_order (get_or ranks k d) s) ≡ false) (f.is d) sorted),
       )
-  | inr before ↦ (told entries (get_or ranks k d) (g.tells k d within), inl (f.before k d before))
+  | inr before ↦ (entry_of_rank entries (get_or ranks k d) (g.tells k d within), inl (f.before k d before))
 ]
 
 -- the first rank that passes has an entry
 tells_first : (entries : List IndexEntry) (ranks : List Ranking) (p : Ranking → Bool) (r : Ranking)
-    → IsRanking entries ranks → IsFirst p ranks r → Told entries r
-tells_first entries ranks p r g f = subst (λ s. Told entries s) (f.is r)
-    (told entries (get_or ranks f.at r) (g.tells f.at r f.within))
+    → IsRanking entries ranks → IsFirst p ranks r → HasEntry entries r
+tells_first entries ranks p r g f = subst (λ s. HasEntry entries s) (f.is r)
+    (entry_of_rank entries (get_or ranks f.at r) (g.tells f.at r f.within))
 
 -- of two ranks, the entry of the one that does not come first is not greater, and is less if its index is
 -- greater
-ordered : (entries : List IndexEntry) (r s : Ranking) → (t : Told entries r) → (u : Told entries s)
+ordered : (entries : List IndexEntry) (r s : Ranking) → (t : HasEntry entries r) → (u : HasEntry entries s)
     → is_lt (rank_order s r) ≡ false → (is_le (entry_order u.entry t.entry) ≡ true)
     × (r.place < s.place → entry_order u.entry t.entry ≡ Less)
 ordered entries r s t u h =
@@ -57,14 +57,14 @@ ordered entries r s t u h =
     (ap is_le order ∙ both.0, λ low. order ∙ both.1 low)
 
 beaten_by : (entries : List IndexEntry) (rust : Option Numbers) (test : Parts → Bool) (r : Ranking)
-    → (t : Told entries r) → (j : ℕ) (x : IndexEntry) → slice_get entries j ≡ Some x
+    → (t : HasEntry entries r) → (j : ℕ) (x : IndexEntry) → slice_get entries j ≡ Some x
     → is_qualifying rust test x ≡ true → (s : Ranking) → s.place ≡ j → Beside entries (passes rust test) r s
     → (is_le (entry_order x t.entry) ≡ true) × (r.place < j → entry_order x t.entry ≡ Less)
-beaten_by entries rust test r t j x at kept s place b =
+beaten_by entries rust test r t j x at qualifies s place b =
     let both : Some b.0.entry ≡ Some x = sym b.0.at ∙ ap (slice_get entries) place ∙ at in
     let same : b.0.entry ≡ x = cc both in
-    let passed : passes rust test s ≡ true = sym (kept-passes rust test entries s b.0) ∙
-    ap (is_qualifying rust test) same ∙ kept in
+    let passed : passes rust test s ≡ true = sym (qualifies-passes rust test entries s b.0) ∙
+    ap (is_qualifying rust test) same ∙ qualifies in
     elim b.1 [
       | inl fails ↦ cc (passed, fails)
       | inr later ↦
@@ -79,21 +79,21 @@ beaten_by entries rust test r t j x at kept s place b =
 -- an admissible entry is not greater than that of the first rank that passes, and is less if its index is
 -- greater
 beaten : (entries : List IndexEntry) (ranks : List Ranking) (rust : Option Numbers) (test : Parts → Bool)
-    (r : Ranking) → IsRanking entries ranks → IsFirst (passes rust test) ranks r → (t : Told entries r)
+    (r : Ranking) → IsRanking entries ranks → IsFirst (passes rust test) ranks r → (t : HasEntry entries r)
     → (j : ℕ) (x : IndexEntry) → slice_get entries j ≡ Some x → is_qualifying rust test x ≡ true
     → (is_le (entry_order x t.entry) ≡ true) × (r.place < j → entry_order x t.entry ≡ Less)
-beaten entries ranks rust test r g f t j x at kept =
+beaten entries ranks rust test r g f t j x at qualifies =
     let read : IsSome (option_and_then candidate_in (slice_get entries j)) =
     subst (λ o. IsSome (option_and_then candidate_in o)) (sym at)
-    (kept-read rust test (candidate_in x) kept) in
+    (qualifies-read rust test (candidate_in x) qualifies) in
     let found = any_all (λ s. s.place == j) (Beside entries (passes rust test) r) ranks (g.each j read)
     (beside entries ranks (passes rust test) r g f) in
-    beaten_by entries rust test r t j x at kept found.0 (same_place found.0.place j found.1) found.2
+    beaten_by entries rust test r t j x at qualifies found.0 (same_place found.0.place j found.1) found.2
 
 -- the entry of the first rank that passes is the greatest admissible one, the last of equal ones
 pub greatest_first : (entries : List IndexEntry) (ranks : List Ranking) (rust : Option Numbers)
     (test : Parts → Bool) (r : Ranking) → IsRanking entries ranks → find (passes rust test) ranks ≡ Some r
-    → (t : Told entries r) × IsGreatestKept (is_qualifying rust test) entry_order entries t.entry
+    → (t : HasEntry entries r) × IsGreatestItem (is_qualifying rust test) entry_order entries t.entry
 greatest_first entries ranks rust test r g h =
     let f = first_found (passes rust test) ranks r h in
     let t = tells_first entries ranks (passes rust test) r g f in (
@@ -102,33 +102,33 @@ greatest_first entries ranks rust test r g h =
         front = take r.place entries;
         rest = drop (suc r.place) entries;
         split = parted entries r.place t.entry t.at;
-        kept = kept-passes rust test entries r t ∙ f.passed;
-        before = λ j d within kept.
+        qualifies = qualifies-passes rust test entries r t ∙ f.passed;
+        before = λ j d within qualifies.
             (beaten entries ranks rust test r g f t j (get_or (take r.place entries) j d)
-            (slice_get-take r.place entries j d within) kept).0;
-        after = λ j d within kept.
+            (slice_get-take r.place entries j d within) qualifies).0;
+        after = λ j d within qualifies.
             (beaten entries ranks rust test r g f t (suc r.place + j)
             (get_or (drop (suc r.place) entries) j d)
-            (slice_get-drop (suc r.place) entries j (suc r.place + j) d within refl) kept).1 (omega arith);
+            (slice_get-drop (suc r.place) entries j (suc r.place + j) d within refl) qualifies).1 (omega arith);
       },
     )
 
-none_kept : (entries : List IndexEntry) (ranks : List Ranking) (rust : Option Numbers) (test : Parts → Bool)
+none_qualifies : (entries : List IndexEntry) (ranks : List Ranking) (rust : Option Numbers) (test : Parts → Bool)
     → IsRanking entries ranks → All (λ s. passes rust test s ≡ false) ranks → (j : ℕ) (x : IndexEntry)
     → slice_get entries j ≡ Some x → is_qualifying rust test x ≡ true → ⊥
-none_kept entries ranks rust test g fails j x at kept =
+none_qualifies entries ranks rust test g fails j x at qualifies =
     let read : IsSome (option_and_then candidate_in (slice_get entries j)) =
     subst (λ o. IsSome (option_and_then candidate_in o)) (sym at)
-    (kept-read rust test (candidate_in x) kept) in
-    let found = any_all (λ s. s.place == j) (λ s. Told entries s × (passes rust test s ≡ false)) ranks
-    (g.each j read) (λ k d within. (told entries (get_or ranks k d) (g.tells k d within), fails k d within))
+    (qualifies-read rust test (candidate_in x) qualifies) in
+    let found = any_all (λ s. s.place == j) (λ s. HasEntry entries s × (passes rust test s ≡ false)) ranks
+    (g.each j read) (λ k d within. (entry_of_rank entries (get_or ranks k d) (g.tells k d within), fails k d within))
     in
     let s = found.0 in
     let place : s.place ≡ j = same_place s.place j found.1 in
     let both : Some found.2.0.entry ≡ Some x = sym found.2.0.at ∙ ap (slice_get entries) place ∙ at in
     let same : found.2.0.entry ≡ x = cc both in
-    let passed : passes rust test s ≡ true = sym (kept-passes rust test entries s found.2.0) ∙
-    ap (is_qualifying rust test) same ∙ kept in
+    let passed : passes rust test s ≡ true = sym (qualifies-passes rust test entries s found.2.0) ∙
+    ap (is_qualifying rust test) same ∙ qualifies in
     cc (passed, found.2.1)
 
 -- if no rank passes, no entry is admissible
@@ -137,8 +137,8 @@ pub none_first : (entries : List IndexEntry) (ranks : List Ranking) (rust : Opti
     → All (λ x. is_qualifying rust test x ≡ false) entries
 none_first entries ranks rust test g h j d within =
     elim (cases_Bool (is_qualifying rust test (get_or entries j d))) [
-      | inl kept ↦ absurd (none_kept entries ranks rust test g (none_found (passes rust test) ranks h) j
-          (get_or entries j d) (slice_get-get_or entries j d within) kept)
+      | inl qualifies ↦ absurd (none_qualifies entries ranks rust test g (none_found (passes rust test) ranks h) j
+          (get_or entries j d) (slice_get-get_or entries j d within) qualifies)
       | inr dropped ↦ dropped
     ]
 

@@ -20,7 +20,7 @@ use Rattle.edit_version.specs.IndexEntry.{IndexEntry}
 use Rattle.edit_version.specs.ReadVersion.{version_read}
 use Rattle.edit_version.specs.RustVersions.{Numbers}
 use Rattle.edit_version.specs.VersionOrder.{full_order}
-use Rattle.edit_version.proofs.Kept.{read-parts}
+use Rattle.edit_version.proofs.QualifyingEntries.{read-parts}
 use Rattle.edit_version.proofs.Orders.{full_total}
 use Rattle.edit_cache.specs.Ranking.{IsInOrder, IsRankOf, rank_order}
 use Rattle.edit_cache.specs.Ranks.{Ranking, passes}
@@ -113,21 +113,21 @@ parted (y ∷ ys) zero x h =
 parted (y ∷ ys) (suc i) x h = ap (λ zs. y ∷ zs) (parted ys i x h)
 
 -- the entry of a rank
-pub record Told (entries : List IndexEntry) (r : Ranking) : Type 0 where
+pub record HasEntry (entries : List IndexEntry) (r : Ranking) : Type 0 where
   pub entry : IndexEntry
   pub at : slice_get entries r.place ≡ Some entry
   pub named : entry.name ≡ r.name
   pub read : candidate_in entry ≡ Some (r.version, r.rust_version)
 
-told-from : (entries : List IndexEntry) (r : Ranking) (o : Option IndexEntry) → slice_get entries r.place ≡ o
+entry-from : (entries : List IndexEntry) (r : Ranking) (o : Option IndexEntry) → slice_get entries r.place ≡ o
     → option_map (λ e. e.name) o ≡ Some r.name
-    → option_and_then candidate_in o ≡ Some (r.version, r.rust_version) → Told entries r
-told-from entries r None at named read = cc named
-told-from entries r (Some e) at named read = record { entry = e; at = at; named = cc named; read = read }
+    → option_and_then candidate_in o ≡ Some (r.version, r.rust_version) → HasEntry entries r
+entry-from entries r None at named read = cc named
+entry-from entries r (Some e) at named read = record { entry = e; at = at; named = cc named; read = read }
 
 -- a rank has an entry
-pub told : (entries : List IndexEntry) (r : Ranking) → IsRankOf entries r → Told entries r
-told entries r t = told-from entries r (slice_get entries r.place) refl t.named t.read
+pub entry_of_rank : (entries : List IndexEntry) (r : Ranking) → IsRankOf entries r → HasEntry entries r
+entry_of_rank entries r t = entry-from entries r (slice_get entries r.place) refl t.named t.read
 
 -- the version of a candidate is that of its entry
 candidate-version : (y : Bool) (r : Option Numbers) (o : Option Parts) (c : Parts × Option Numbers)
@@ -137,7 +137,7 @@ candidate-version false r None c h = cc h
 candidate-version false r (Some v) c h = let e : (v, r) ≡ c = cc h in
     ap (λ (p : Parts × Option Numbers). Some p.0) e
 
-pub tells-version : (entries : List IndexEntry) (r : Ranking) → (t : Told entries r)
+pub tells-version : (entries : List IndexEntry) (r : Ranking) → (t : HasEntry entries r)
     → version_in t.entry ≡ Some r.version
 tells-version entries r t = candidate-version t.entry.yanked (minimum_rust t.entry) (version_in t.entry)
     (r.version, r.rust_version) t.read
@@ -160,17 +160,17 @@ passes-read true test v t e = refl
 passes-read false true v t e = rw e refl
 passes-read false false v t e = rw e refl
 
-pub kept-passes : (rust : Option Numbers) (test : Parts → Bool) (entries : List IndexEntry) (r : Ranking)
-    → (t : Told entries r) → is_qualifying rust test t.entry ≡ passes rust test r
-kept-passes rust test entries r t =
+pub qualifies-passes : (rust : Option Numbers) (test : Parts → Bool) (entries : List IndexEntry) (r : Ranking)
+    → (t : HasEntry entries r) → is_qualifying rust test t.entry ≡ passes rust test r
+qualifies-passes rust test entries r t =
     ap (λ o. is_some (if_passes test (if_fits rust o))) t.read
     ∙ passes-read (is_too_new r.rust_version rust) (test r.version) r.version test refl
 
 -- an admissible entry is a candidate
-pub kept-read : (rust : Option Numbers) (test : Parts → Bool) (o : Option (Parts × Option Numbers))
+pub qualifies-read : (rust : Option Numbers) (test : Parts → Bool) (o : Option (Parts × Option Numbers))
     → is_some (if_passes test (if_fits rust o)) ≡ true → IsSome o
-kept-read rust test None h = cc h
-kept-read rust test (Some c) h = refl
+qualifies-read rust test None h = cc h
+qualifies-read rust test (Some c) h = refl
 
 not_less : (i j : ℕ) → is_lt (nat_cmp i j) ≡ false → i < j → ⊥
 not_less i j h low = grind (arith, nat_tests)

@@ -24,7 +24,7 @@ cached_at cache address name =
 
 -- the cached result for an address and a name, if there is one (own)
 abbrev pub cached_answer_at : {I : Type 0} → IndexCache I → List ℕ → List ℕ → Option (Option IndexKrate)
-cached_answer_at cache address name = option_map (λ kept. kept.answer) (cached_at cache address name)
+cached_answer_at cache address name = option_map (λ cached. cached.answer) (cached_at cache address name)
 
 -- the cached entries for an address and a name: none where nothing is cached, or where the index has no
 -- crate of that name (own)
@@ -49,7 +49,7 @@ has_version krate version = list_any (λ v. bytes_eq (string_bytes v.version) ve
 -- makes one lookup, whose result it caches and whose error it does not (own)
 pub record Fetches {I T : Type 0} (seen now : IndexView) (address : Parts) (name : List ℕ)
     (old new : IndexCache I) (result : Result T Error) : Type 0 where
-  pub kept : OnOk result (IsSome (cached_answer_at new (serialize address) name))
+  pub cached : OnOk result (IsSome (cached_answer_at new (serialize address) name))
   pub first : IsSome (cached_answer_at old (serialize address) name) → (new ≡ old) × IsOk result
   pub others : HasSameCacheBut (serialize address) name old new
   pub refused : OnErr result (HasSameCache old new)
@@ -61,7 +61,7 @@ pub record Fetches {I T : Type 0} (seen now : IndexView) (address : Parts) (name
 
 -- the cached ranking for an address and a name, if there is one (own)
 abbrev pub ranking_at : {I : Type 0} → IndexCache I → List ℕ → List ℕ → Option Ranked
-ranking_at cache address name = option_and_then (λ kept. kept.ranked) (cached_at cache address name)
+ranking_at cache address name = option_and_then (λ cached. cached.ranked) (cached_at cache address name)
 
 -- a call after which a result and its ranking are cached, if it succeeds: it makes a lookup only where
 -- nothing was cached, and a result that it caches is one that the index gave, even if memory runs out (own)
@@ -69,7 +69,7 @@ pub record Ranks {I T : Type 0} (seen now : IndexView) (address : Parts) (name :
     (old new : IndexCache I) (result : Result T Error) : Type 0 where
   pub ranked : OnOk result (IfSome (cached_answer_at new (serialize address) name)
       (λ k. IsRanked k (ranking_at new (serialize address) name)))
-  pub kept : OnOk result (IsSome (cached_answer_at new (serialize address) name))
+  pub cached : OnOk result (IsSome (cached_answer_at new (serialize address) name))
   pub first : IsSome (cached_answer_at old (serialize address) name)
       → HasSameCache old new × IfErr result IsMemory
   pub others : HasSameCacheBut (serialize address) name old new
@@ -82,5 +82,5 @@ pub record Ranks {I T : Type 0} (seen now : IndexView) (address : Parts) (name :
 -- the errors of a call: lack of memory, or, where nothing was cached, an error that the index gives or a
 -- fault of its device (own)
 abbrev pub IsMissError : Outcomes → Parts → List ℕ → Option (Option IndexKrate) → Error → Type 0
-IsMissError gives address name kept e =
-    IsMemory e ⊎ ((kept ≡ None) × (IsOutcomeError gives address name e ⊎ (number_of e ≡ 3)))
+IsMissError gives address name cached e =
+    IsMemory e ⊎ ((cached ≡ None) × (IsOutcomeError gives address name e ⊎ (number_of e ≡ 3)))

@@ -53,7 +53,7 @@ impl<I: Index> IndexCache<I> {
         ensures { option_copied result ≡ krate_at self.now (serialize registry.now) name.now }
     {
         match self.cached_answer(registry.as_str(), name) {
-            Some(kept) => kept.answer.as_ref(),
+            Some(cached) => cached.answer.as_ref(),
             None => None,
         }
     }
@@ -102,14 +102,14 @@ impl<I: Index> IndexCache<I> {
         ensures memory { IfErr result IsMemory }
     {
         let key = String::from_str(alloc, name)?;
-        let kept = CachedAnswer::new(answer);
+        let cached = CachedAnswer::new(answer);
         if let Some(names) = self.answers.get_mut(address) {
-            names.insert(key, kept)?;
+            names.insert(key, cached)?;
             return Ok(());
         }
         let address = String::from_str(alloc, address)?;
         let mut names = BTreeMap::new(alloc);
-        names.insert(key, kept)?;
+        names.insert(key, cached)?;
         self.answers.insert(address, names)?;
         Ok(())
     }
@@ -148,7 +148,7 @@ impl<I: Index> IndexCache<I> {
             (λ o. (I.view (index_of self.old)).gives registry.now name.now (Ok (answer_of
             (option_copied o)))) }
         // a cached result is returned without an error
-        ensures kept_answers { IsSome (cached_answer_at self.old (serialize registry.now) name.now)
+        ensures cached_answers { IsSome (cached_answer_at self.old (serialize registry.now) name.now)
             → IsOk result }
         ensures error { IfErr result (IsMissError (I.view (index_of self.old)).gives registry.now name.now
             (cached_answer_at self.old (serialize registry.now) name.now)) }
@@ -233,7 +233,7 @@ impl<I: Index> IndexCache<I> {
             return Ok(());
         };
         match names.get_mut(name) {
-            Some(kept) => kept.rank(alloc),
+            Some(cached) => cached.rank(alloc),
             None => Ok(()),
         }
     }
@@ -244,7 +244,7 @@ impl<I: Index> IndexCache<I> {
         ensures { option_copied result ≡ ranking_at self.now (serialize registry.now) name.now }
     {
         match self.cached_answer(registry.as_str(), name) {
-            Some(kept) => kept.ranked.as_ref(),
+            Some(cached) => cached.ranked.as_ref(),
             None => None,
         }
     }
@@ -267,7 +267,7 @@ impl<I: Index> IndexCache<I> {
             × (I.view (index_of self.old)).gives registry.now name.now (Ok (answer_of k))
             × IsRanked k (option_copied o)) }
         // with a cached result the only error is lack of memory during the ranking
-        ensures kept_answers { IsSome (cached_answer_at self.old (serialize registry.now) name.now)
+        ensures cached_answers { IsSome (cached_answer_at self.old (serialize registry.now) name.now)
             → IfErr result IsMemory }
         ensures error { IfErr result (IsMissError (I.view (index_of self.old)).gives registry.now name.now
             (cached_answer_at self.old (serialize registry.now) name.now)) }

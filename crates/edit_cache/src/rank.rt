@@ -43,20 +43,20 @@ fn push_rank(
     alloc: Global,
     ranks: &mut Vec<Rank>,
     place: usize,
-    told: &IndexVersion,
+    index_entry: &IndexVersion,
 ) -> CargoResult<()>
     ensures ok { OnOk result (map rank_of ranks.new.items
-        ≡ map rank_of ranks.old.items ++ rank_at place (entry_of told.now)) }
+        ≡ map rank_of ranks.old.items ++ rank_at place (entry_of index_entry.now)) }
     ensures error { IfErr result IsMemory }
 {
-    let Some(candidate) = read_candidate(alloc, told)? else {
+    let Some(candidate) = read_candidate(alloc, index_entry)? else {
         return Ok(());
     };
     ranks.push(Rank {
         version: Reverse(candidate.version),
         place: Reverse(place),
         rust_version: candidate.rust_version,
-        name: told.name.clone()?,
+        name: index_entry.name.clone()?,
     })?;
     Ok(())
 }
@@ -67,8 +67,8 @@ pub(crate) fn read_ranks(alloc: Global, entries: &[IndexVersion]) -> CargoResult
     ensures error { IfErr result IsMemory }
 {
     let mut ranks = Vec::with_capacity(alloc, entries.len())?;
-    for (place, told) in entries.iter().enumerate() {
-        push_rank(alloc, &mut ranks, place, told)?;
+    for (place, index_entry) in entries.iter().enumerate() {
+        push_rank(alloc, &mut ranks, place, index_entry)?;
     }
     Ok(ranks)
 }
@@ -80,13 +80,13 @@ pub(crate) fn dependency_of(alloc: Global, rank: &Rank) -> CargoResult<Dependenc
     ensures error { IfErr result IsMemory }
 {
     let version = &rank.version.0;
-    let told = IndexVersion {
+    let index_entry = IndexVersion {
         name: rank.name.clone()?,
         version: format!(in alloc; "{version}")?,
         yanked: false,
         rust_version: None,
     };
-    dependency_on(alloc, &told)
+    dependency_on(alloc, &index_entry)
 }
 
 /// The first rank that supports a Rust version and whose version matches. Without `req`, pre-releases match

@@ -5,7 +5,7 @@ ghost use Rattle.edit_base.specs.Errors.{IsMemory};
 ghost use Rattle.edit_version.specs.Admissible.{admissible_in, entry_order, is_qualifying};
 ghost use Rattle.edit_version.specs.Admits.{admits};
 ghost use Rattle.edit_version.specs.Candidates.{numbers_in, parts_in, wants};
-ghost use Rattle.edit_version.specs.Greatest.{IsGreatest, IsGreatestKept};
+ghost use Rattle.edit_version.specs.Greatest.{IsGreatest, IsGreatestItem};
 ghost use Rattle.edit_version.specs.IndexEntry.{IndexEntry, entry_of};
 ghost use Rattle.edit_version.specs.Laws.{holds_dash};
 ghost use Rattle.edit_version.specs.ReadRequirement.{text_in};
@@ -164,7 +164,7 @@ impl Ranked {
         // pre-releases are allowed where the requirement has a `-`
         ensures at_least { OfEntries self.now (λ entries. IfOk result (λ o.
             (req : List ℕ) → (IsTrue (holds_dash req) → IsTrue allow_prerelease) → (e : IndexEntry)
-            → IsGreatestKept (is_qualifying (numbers_in rust_version) (is_admitted req)) entry_order entries e
+            → IsGreatestItem (is_qualifying (numbers_in rust_version) (is_admitted req)) entry_order entries e
             → IsFoundAtLeast (numbers_in rust_version) (is_allowed allow_prerelease) entries e o)) }
         ensures error { IfErr result IsMemory }
     {

@@ -9,22 +9,22 @@ use std::alloc::{AllocError, Global};
 /// Arguments that are consumed one by one.
 #[derive(Drop)]
 pub(crate) struct ArgCursor<'a> {
-    words: &'a [String],
+    args: &'a [String],
     next: usize,
 }
 
 impl<'a> ArgCursor<'a> {
     /// An iterator over these arguments.
-    pub(crate) fn new(words: &'a [String]) -> ArgCursor<'a> {
-        ArgCursor { words, next: 0 }
+    pub(crate) fn new(args: &'a [String]) -> ArgCursor<'a> {
+        ArgCursor { args, next: 0 }
     }
 
     /// The next argument, empty after the last one.
     pub(crate) fn take(&mut self) -> &'a str {
-        match self.words.get(self.next) {
-            Some(word) => {
+        match self.args.get(self.next) {
+            Some(arg) => {
                 self.next += 1;
-                word.as_str()
+                arg.as_str()
             }
             None => "",
         }
@@ -38,11 +38,11 @@ impl<'a> ArgCursor<'a> {
     /// The steps up to an argument `=`: `.NAME` is a key, `#INDEX` an element.
     pub(crate) fn take_place(&mut self, alloc: Global) -> Result<Vec<Step>, AllocError> {
         let mut place = Vec::new(alloc);
-        for _ in 0..self.words.len() {
-            let word = self.take();
-            match word.strip_prefix(".") {
+        for _ in 0..self.args.len() {
+            let arg = self.take();
+            match arg.strip_prefix(".") {
                 Some(name) => place.push(Step::Key(String::from_str(alloc, name)?))?,
-                None => match word.strip_prefix("#") {
+                None => match arg.strip_prefix("#") {
                     Some(index) => place.push(Step::Index(index.parse().unwrap_or(usize::MAX)))?,
                     None => return Ok(place),
                 },

@@ -176,7 +176,7 @@ fn sources_of(rt: &HostRuntime, folder: &str) -> CargoResult<Sources>
     ensures { IfOk result MayBePlanned }
 {
     let mut files = HostStore::new(rt.clone()?);
-    let asked = SourceRequest {
+    let request = SourceRequest {
         manifest_path: None,
         metadata_json: None,
         index_file: Some("index.json"),
@@ -186,9 +186,9 @@ fn sources_of(rt: &HostRuntime, folder: &str) -> CargoResult<Sources>
         rust: RustChoice::Ignored,
         writes: false,
     };
-    match read_sources(rt.alloc(), &asked, folder, None, &mut files) {
+    match read_sources(rt.alloc(), &request, folder, None, &mut files) {
         Ok(sources) => Ok(sources),
-        Err(refusal) => Err(refusal.error),
+        Err(failure) => Err(failure.error),
     }
 }
 

@@ -27,10 +27,10 @@ fn insert(
     alloc: Global,
     document: &mut Document,
     place: &[Step],
-    words: &mut ArgCursor<'_>,
+    args: &mut ArgCursor<'_>,
 ) -> CargoResult<bool> {
-    let key = words.take();
-    let value = words.take_value(alloc)?;
+    let key = args.take();
+    let value = args.take_value(alloc)?;
     let Some(item) = document.item(place) else {
         return Ok(false);
     };
@@ -53,9 +53,9 @@ fn set_value(
     alloc: Global,
     document: &mut Document,
     place: &[Step],
-    words: &mut ArgCursor<'_>,
+    args: &mut ArgCursor<'_>,
 ) -> CargoResult<bool> {
-    let value = words.take_value(alloc)?;
+    let value = args.take_value(alloc)?;
     if !document.is_value(place) || place.len() > 79 {
         return Ok(false);
     }
@@ -80,9 +80,9 @@ fn set_string(
     alloc: Global,
     document: &mut Document,
     place: &[Step],
-    words: &mut ArgCursor<'_>,
+    args: &mut ArgCursor<'_>,
 ) -> CargoResult<bool> {
-    match words.take_value(alloc)? {
+    match args.take_value(alloc)? {
         NewValue::Str(text) => set_literal(alloc, document, place, text.as_str()),
         _ => Ok(false),
     }
@@ -114,9 +114,9 @@ fn replace_entry(
     alloc: Global,
     document: &mut Document,
     place: &[Step],
-    words: &mut ArgCursor<'_>,
+    args: &mut ArgCursor<'_>,
 ) -> CargoResult<bool> {
-    let item = words.take_item(alloc)?;
+    let item = args.take_item(alloc)?;
     replace_by(alloc, document, place, &item)
 }
 
@@ -191,10 +191,10 @@ fn update(
     alloc: Global,
     document: &mut Document,
     place: &[Step],
-    words: &mut ArgCursor<'_>,
+    args: &mut ArgCursor<'_>,
 ) -> CargoResult<bool> {
-    let source = RegistrySource::new(alloc, words.take())?;
-    let features = words.take_texts(alloc)?;
+    let source = RegistrySource::new(alloc, args.take())?;
+    let features = args.take_texts(alloc)?;
     update_to(alloc, document, place, source, features)
 }
 
@@ -207,10 +207,10 @@ fn gc_dep(alloc: Global, manifest: &mut Manifest, key: &str) -> CargoResult<bool
 fn remove_from_table(
     alloc: Global,
     manifest: &mut Manifest,
-    words: &mut ArgCursor<'_>,
+    args: &mut ArgCursor<'_>,
 ) -> CargoResult<bool> {
-    let table = words.take_texts(alloc)?;
-    done_if_ok(manifest.remove_from_table(alloc, &table, words.take()))
+    let table = args.take_texts(alloc)?;
+    done_if_ok(manifest.remove_from_table(alloc, &table, args.take()))
 }
 
 /// Makes the edit of a document at a place.
@@ -219,37 +219,37 @@ fn edit_at(
     document: &mut Document,
     place: &[Step],
     call: &str,
-    words: &mut ArgCursor<'_>,
+    args: &mut ArgCursor<'_>,
 ) -> CargoResult<bool> {
     match call {
-        "insert" => insert(alloc, document, place, words),
+        "insert" => insert(alloc, document, place, args),
         "remove" => remove(alloc, document, place),
-        "set_value" => set_value(alloc, document, place, words),
-        "set_literal" => set_literal(alloc, document, place, words.take()),
-        "set_string" => set_string(alloc, document, place, words),
+        "set_value" => set_value(alloc, document, place, args),
+        "set_literal" => set_literal(alloc, document, place, args.take()),
+        "set_string" => set_string(alloc, document, place, args),
         "copy" => copy(alloc, document),
-        "replace_entry" => replace_entry(alloc, document, place, words),
+        "replace_entry" => replace_entry(alloc, document, place, args),
         "rewrite" => rewrite(alloc, document, place),
-        "update" => update(alloc, document, place, words),
+        "update" => update(alloc, document, place, args),
         _ => Ok(false),
     }
 }
 
 /// Makes the edit that the arguments describe.
-fn edit(alloc: Global, manifest: &mut Manifest, words: &mut ArgCursor<'_>) -> CargoResult<bool> {
-    let call = words.take();
-    let place = words.take_place(alloc)?;
+fn edit(alloc: Global, manifest: &mut Manifest, args: &mut ArgCursor<'_>) -> CargoResult<bool> {
+    let call = args.take();
+    let place = args.take_place(alloc)?;
     match call {
-        "gc_dep" => gc_dep(alloc, manifest, words.take()),
-        "remove_from_table" => remove_from_table(alloc, manifest, words),
-        _ => edit_at(alloc, &mut manifest.document, &place, call, words),
+        "gc_dep" => gc_dep(alloc, manifest, args.take()),
+        "remove_from_table" => remove_from_table(alloc, manifest, args),
+        _ => edit_at(alloc, &mut manifest.document, &place, call, args),
     }
 }
 
 /// Makes the edits that the arguments describe, separated by `&`, up to the first that is not made.
-pub(crate) fn edits(alloc: Global, manifest: &mut Manifest, words: &[String]) -> CargoResult<bool> {
-    let mut taken = ArgCursor::new(words);
-    for _ in words {
+pub(crate) fn edits(alloc: Global, manifest: &mut Manifest, args: &[String]) -> CargoResult<bool> {
+    let mut taken = ArgCursor::new(args);
+    for _ in args {
         let is_made = edit(alloc, manifest, &mut taken)?;
         if !is_made || taken.take() != "&" {
             return Ok(is_made);

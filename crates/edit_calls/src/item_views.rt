@@ -4,7 +4,7 @@ use crate::print_helpers::print_text;
 use edit_document::{CargoResult, Document, Item, Step};
 
 /// `true` or `false`.
-fn bool_word(truth: bool) -> &'static str {
+fn bool_text(truth: bool) -> &'static str {
     if truth { "true" } else { "false" }
 }
 
@@ -28,12 +28,12 @@ fn item_at_steps<'a>(root: Item<'a>, place: &[Step]) -> Option<Item<'a>> {
 /// Prints the type of an item, the number of its members or elements, and the views that it has.
 fn show_kind(rt: &HostRuntime, item: Item<'_>) {
     let array = item.as_array().map_or("-", |array| array.type_name());
-    let truth = item.as_bool().map_or("-", bool_word);
+    let truth = item.as_bool().map_or("-", bool_text);
     let name = item.type_name();
     let count = item.len();
-    let text = bool_word(item.is_str());
-    let table = bool_word(item.is_table_like());
-    let inline = bool_word(item.is_inline_table());
+    let text = bool_text(item.is_str());
+    let table = bool_text(item.is_table_like());
+    let inline = bool_text(item.is_inline_table());
     print_text(
         rt,
         format_args!("type {name}\nlen {count}\ntruth {truth}\narray {array}\n"),
@@ -70,7 +70,7 @@ fn show_below(rt: &HostRuntime, root: Item<'_>, place: &[Step]) {
 /// Prints what a document reports of a place, and then the item there.
 fn show_place(rt: &HostRuntime, document: &Document, place: &[Step]) {
     let item = document.item(place).map_or("-", |item| item.type_name());
-    let one = bool_word(document.one_statement(place));
+    let one = bool_text(document.one_statement(place));
     print_text(rt, format_args!("item {item}\none_statement {one}\n"));
     if let Some(root) = document.item(&[]) {
         show_below(rt, root, place);
@@ -78,28 +78,28 @@ fn show_place(rt: &HostRuntime, document: &Document, place: &[Step]) {
 }
 
 /// Prints the item at a place of the entry in the arguments.
-fn show_entry(rt: &HostRuntime, place: &[Step], words: &mut ArgCursor<'_>) -> CargoResult<()> {
-    let item = words.take_item(rt.alloc())?;
+fn show_entry(rt: &HostRuntime, place: &[Step], args: &mut ArgCursor<'_>) -> CargoResult<()> {
+    let item = args.take_item(rt.alloc())?;
     show_below(rt, item.view(), place);
     Ok(())
 }
 
 /// Prints how the entry in the arguments is written.
-pub(crate) fn show_written(rt: &HostRuntime, words: &[String]) -> CargoResult<()> {
-    let item = ArgCursor::new(words).take_item(rt.alloc())?;
+pub(crate) fn show_written(rt: &HostRuntime, args: &[String]) -> CargoResult<()> {
+    let item = ArgCursor::new(args).take_item(rt.alloc())?;
     print_text(rt, item.text(rt.alloc())?);
     Ok(())
 }
 
 /// Prints the item at the place in the arguments, in the document or in the entry given after the place.
-pub(crate) fn show_words(
+pub(crate) fn show_by_args(
     rt: &HostRuntime,
     document: &Document,
-    words: &[String],
+    args: &[String],
 ) -> CargoResult<()> {
-    let mut taken = ArgCursor::new(words);
+    let mut taken = ArgCursor::new(args);
     let place = taken.take_place(rt.alloc())?;
-    match words.last() {
+    match args.last() {
         Some(last) if last.as_str() == "=" => {
             show_place(rt, document, &place);
             Ok(())

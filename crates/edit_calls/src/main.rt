@@ -63,7 +63,7 @@ use calls::edits;
 use edit_document::{CargoResult, Error};
 use edit_manifest::Manifest;
 use edit_store::{HostStore, Store};
-use item_views::{show_words, show_written};
+use item_views::{show_by_args, show_written};
 use print_helpers::print_text;
 use readers::planned_call;
 use std::env;
@@ -82,8 +82,8 @@ fn print_edit_error(rt: &HostRuntime, manifest: &Manifest, error: &Error) -> boo
 }
 
 /// Makes the edits, and prints the result and the document's current text. Returns whether memory ran out.
-fn print_edited(rt: &HostRuntime, manifest: &mut Manifest, words: &[String]) -> bool {
-    let said = match edits(rt.alloc(), manifest, words) {
+fn print_edited(rt: &HostRuntime, manifest: &mut Manifest, args: &[String]) -> bool {
+    let said = match edits(rt.alloc(), manifest, args) {
         Ok(true) => "done",
         Ok(false) => "no such place",
         Err(error) => return print_edit_error(rt, manifest, &error),
@@ -102,27 +102,27 @@ fn manifest_of(rt: &HostRuntime, path: &str) -> CargoResult<Manifest> {
 }
 
 /// Makes the edits in the arguments, and again where memory ran out.
-fn run_edits(rt: &HostRuntime, manifest: &mut Manifest, words: &[String]) {
-    if print_edited(rt, manifest, words) {
+fn run_edits(rt: &HostRuntime, manifest: &mut Manifest, args: &[String]) {
+    if print_edited(rt, manifest, args) {
         show_views(rt, &manifest.document);
-        print_edited(rt, manifest, words);
+        print_edited(rt, manifest, args);
     }
 }
 
 /// Makes the edits in the arguments on the manifest in a file.
-fn run_edits_on_file(rt: &HostRuntime, path: &str, words: &[String]) -> CargoResult<()> {
+fn run_edits_on_file(rt: &HostRuntime, path: &str, args: &[String]) -> CargoResult<()> {
     let mut manifest = manifest_of(rt, path)?;
-    match words {
-        [call, words @ ..] if call.as_str() == "show" => {
-            show_words(rt, &manifest.document, words)
+    match args {
+        [call, args @ ..] if call.as_str() == "show" => {
+            show_by_args(rt, &manifest.document, args)
         }
-        [call, words @ ..] if call.as_str() == "written" => show_written(rt, words),
-        [call, words @ ..] if call.as_str() == "pieces" => {
-            run_edits(rt, &mut manifest, words);
+        [call, args @ ..] if call.as_str() == "written" => show_written(rt, args),
+        [call, args @ ..] if call.as_str() == "pieces" => {
+            run_edits(rt, &mut manifest, args);
             show_pieces(rt, &manifest.document)
         }
         _ => {
-            run_edits(rt, &mut manifest, words);
+            run_edits(rt, &mut manifest, args);
             Ok(())
         }
     }
@@ -130,13 +130,13 @@ fn run_edits_on_file(rt: &HostRuntime, path: &str, words: &[String]) -> CargoRes
 
 /// Runs the call in the arguments.
 fn run_args(rt: &HostRuntime) -> CargoResult<()> {
-    let words: Vec<String> = env::args(rt)?.skip(1).collect(rt.alloc())?;
-    if let Some(call) = planned_call(&words) {
+    let args: Vec<String> = env::args(rt)?.skip(1).collect(rt.alloc())?;
+    if let Some(call) = planned_call(&args) {
         call.show(rt);
         return Ok(());
     }
-    match words.as_slice() {
-        [path, words @ ..] => run_edits_on_file(rt, path.as_str(), words),
+    match args.as_slice() {
+        [path, args @ ..] => run_edits_on_file(rt, path.as_str(), args),
         [] => Ok(()),
     }
 }

@@ -84,7 +84,7 @@ fn workspace_of(rt: &HostRuntime, folder: &str) -> CargoResult<ReadWorkspace>
         &mut files,
     ) {
         Ok(read) => Ok(read),
-        Err(refusal) => Err(refusal.error),
+        Err(failure) => Err(failure.error),
     }
 }
 

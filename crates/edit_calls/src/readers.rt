@@ -19,8 +19,8 @@ fn bytes_of(rt: &HostRuntime, path: &str) -> CargoResult<Vec<u8>> {
 }
 
 /// Prints the crate name in a `NAME@REQUIREMENT` argument.
-fn show_name(rt: &HostRuntime, word: &str) -> CargoResult<()> {
-    let spec = CrateSpec::resolve(rt.alloc(), word)?;
+fn show_name(rt: &HostRuntime, arg: &str) -> CargoResult<()> {
+    let spec = CrateSpec::resolve(rt.alloc(), arg)?;
     show(rt, spec.name.as_bytes());
     Ok(())
 }
@@ -60,16 +60,16 @@ impl<'a> Call<'a> {
 }
 
 /// The call that the arguments describe, if any.
-pub(crate) fn planned_call(words: &[String]) -> Option<Call<'_>> {
-    let what = words.first()?.as_str();
+pub(crate) fn planned_call(args: &[String]) -> Option<Call<'_>> {
+    let what = args.first()?.as_str();
     if !matches!(
         what,
         "upgrade" | "ranked" | "krate" | "set_version" | "apply" | "spec"
     ) {
         return None;
     }
-    let at = words.get(1)?.as_str();
-    let name = match words.get(2) {
+    let at = args.get(1)?.as_str();
+    let name = match args.get(2) {
         Some(name) => name.as_str(),
         None => "",
     };

@@ -16,7 +16,7 @@ use Rattle.edit_changes.proofs.NewValues.{new_is_value, new_under, new_flat, new
 use Rattle.edit_tree.proofs.NothingBelow.{rooted}
 use Rattle.edit_tree.proofs.PlainValues.{shut_below}
 use Rattle.edit_tree.proofs.Parts.{has_kind}
-use Rattle.edit_tree.proofs.ReplacedStrings.{told_value, one_apart}
+use Rattle.edit_tree.proofs.ReplacedStrings.{value_written, one_apart}
 use Rattle.edit_tree.proofs.ReplacedTree.{formed_lines, thinned, replaced_document, no_root}
 use Rattle.edit_tree.proofs.SamePlace.{same_step_self, same_place_self}
 use Rattle.edit_tree.proofs.SamePlaces.{below_within}
@@ -32,13 +32,13 @@ use Rattle.edit_rewrite.proofs.SetBytes.{form_set, set_at}
 -- ---- a document
 
 module _ (old : List ℕ) (form : Text) (p : Place) (v : NewValue) (document : IsDocument old form)
-    (told : is_value_at form p ≡ true) where
+    (listed : is_value_at form p ≡ true) where
   there : new_text (one p) p ≡ Some []
   there = ap (λ c. cond c (Some []) None) (same_place_self p)
 
   literal_there : kind_at (assertions (replaced (one p) form)) p ≡ Some (leaf (literal_of []))
   literal_there =
-      let has = told_value form p document.no_clash told in
+      let has = value_written form p document.no_clash listed in
       let apart = one_apart form p [] has p [] there in
       thin_literal (one p) p [] (assertions form)
       (assertions (replaced (one p) form)) has.0 there apart.1 has.1 (thinned (one p) form)
@@ -141,14 +141,14 @@ set_any old p v f g a b = ap (λ z. set_text p v z) (one_form old f g a b)
 -- the value at the place is written somewhere
 is_written : (form : Text) (p : Place) → AreCompatible (assertions form) → is_value_at form p ≡ true
     → (start : ℕ) × (end : ℕ) × IsWrittenAt form p start end
-is_written form p clash told =
-    let w = value_listed form p clash told in
+is_written form p clash listed =
+    let w = value_listed form p clash listed in
     let total = length (text form) in (
       start_of total w.0,
       end_of total w.0,
       record {
         placed_value = w.0;
-        told =
+        listed =
             among_contained w.0 (values form) w.1;
         there = w.2;
         starts = refl;
@@ -159,8 +159,8 @@ is_written form p clash told =
 -- the text with the value is a document
 pub set_manifest : (old new : List ℕ) (form : Text) (p : Place) (v : NewValue) → IsDocument old form
     → is_value_at form p ≡ true → HasRoom p v → new ≡ set_text p v form → IsDocument new (form_set p v form)
-set_manifest old new form p v manifest told room e =
-    let r = is_written form p manifest.no_clash told in
-    let same = set_at form p v r.0 r.1 old manifest told r.2 in
+set_manifest old new form p v manifest listed room e =
+    let r = is_written form p manifest.no_clash listed in
+    let same = set_at form p v r.0 r.1 old manifest listed r.2 in
     subst (λ (b : List ℕ). IsDocument b (form_set p v form)) (sym (e ∙ same.meant))
-    (set_document old form p v manifest told room)
+    (set_document old form p v manifest listed room)

@@ -58,10 +58,10 @@ pub(crate) fn print_usage<E: Write>(name: &str, err: &mut E) -> u8 {
 /// is `upgrade`.
 pub(crate) fn upgrade_matches<'a, E: Write>(
     rt: &HostRuntime,
-    words: &'a [&'a str],
+    args: &'a [&'a str],
     err: &mut E,
 ) -> CargoResult<Result<ArgMatches<'a>, u8>> {
-    match parse_args(rt.alloc(), words) {
+    match parse_args(rt.alloc(), args) {
         Ok(matches) => Ok(Ok(matches)),
         Err(error) => Ok(Err(print_parse_error(&error, &mut rt.stdout(), err)?)),
     }

@@ -36,8 +36,8 @@ pub(crate) fn fetch_plan<E: Write>(
     let Some(arguments) = read_arguments(arguments) else {
         return Ok(print_usage("fetch-plan", err));
     };
-    let words = filled_args(rt.alloc(), "upgrade", arguments.upgrade)?;
-    let matches = match upgrade_matches(rt, &words, err)? {
+    let args = filled_args(rt.alloc(), "upgrade", arguments.upgrade)?;
+    let matches = match upgrade_matches(rt, &args, err)? {
         Ok(matches) => matches,
         Err(status) => return Ok(status),
     };
@@ -91,16 +91,16 @@ fn lookups_text<E: Write>(
     text: &mut Vec<u8>,
     err: &mut E,
 ) -> CargoResult<u8> {
-    let mut words = Vec::new(rt.alloc());
-    words.push("looks")?;
+    let mut args = Vec::new(rt.alloc());
+    args.push("looks")?;
     for argument in arguments.upgrade {
-        words.push(*argument)?;
+        args.push(*argument)?;
     }
     let mut files = HostStore::new(rt.clone()?);
     let index_files = HostStore::new(rt.clone()?);
     Ok(run(
         rt.alloc(),
-        &words,
+        &args,
         current,
         home,
         &mut files,

@@ -23,8 +23,8 @@ pub(crate) fn fetch_store<E: Write>(
     let Some(arguments) = read_arguments(arguments) else {
         return Ok(print_usage("fetch-store", err));
     };
-    let words = filled_args(rt.alloc(), "upgrade", arguments.upgrade)?;
-    let matches = match upgrade_matches(rt, &words, err)? {
+    let args = filled_args(rt.alloc(), "upgrade", arguments.upgrade)?;
+    let matches = match upgrade_matches(rt, &args, err)? {
         Ok(matches) => matches,
         Err(status) => return Ok(status),
     };

@@ -85,35 +85,35 @@ fn print_usage_error(rt: &HostRuntime, fault: &str) -> CargoResult<u8> {
 /// Runs the program with its arguments, and returns the exit status. Arguments that need no file, as
 /// `--help`, need no current folder and no environment.
 fn start(rt: &HostRuntime) -> CargoResult<u8> {
-    let words = match env::args(rt) {
-        Ok(words) => words,
+    let args = match env::args(rt) {
+        Ok(args) => args,
         Err(error) if error.kind() == ErrorKind::InvalidData => {
             return print_usage_error(rt, "invalid UTF-8 was detected in one or more arguments");
         }
         Err(error) => return Err(machine_error(error)),
     };
-    let words: Vec<String> = words.skip(1).collect(rt.alloc())?;
-    let texts: Vec<&str> = words.iter().map(|word| word.as_str()).collect(rt.alloc())?;
-    let words = texts.as_slice();
-    match words.first().copied() {
-        Some("check-curl" | "plan" | "shell-options") => return run_fileless(rt, words),
-        Some("fetch-plan" | "fetch-store" | "next-call") => return start_in(rt, words, None),
+    let args: Vec<String> = args.skip(1).collect(rt.alloc())?;
+    let texts: Vec<&str> = args.iter().map(|arg| arg.as_str()).collect(rt.alloc())?;
+    let args = texts.as_slice();
+    match args.first().copied() {
+        Some("check-curl" | "plan" | "shell-options") => return run_fileless(rt, args),
+        Some("fetch-plan" | "fetch-store" | "next-call") => return start_in(rt, args, None),
         _ => {}
     }
-    let filled = insert_defaults(rt.alloc(), words)?;
+    let filled = insert_defaults(rt.alloc(), args)?;
     let command = command(rt.alloc())?;
     let matches = match command.try_get_matches_from(filled.as_slice()) {
         Ok(matches) => matches,
-        Err(_) => return run_at(rt, words, NO_FOLDERS, true),
+        Err(_) => return run_at(rt, args, NO_FOLDERS, true),
     };
-    start_in(rt, words, matches.subcommand())
+    start_in(rt, args, matches.subcommand())
 }
 
 /// Runs these arguments in the current folder. `matches` are the parsed arguments of a subcommand of
 /// `edit_program`.
 fn start_in(
     rt: &HostRuntime,
-    words: &[&str],
+    args: &[&str],
     matches: Option<(&str, &ArgMatches<'_>)>,
 ) -> CargoResult<u8> {
     let current = match env::current_dir(rt) {
@@ -122,7 +122,7 @@ fn start_in(
         Err(_) => return print_usage_error(rt, NO_CURRENT),
     };
     match current.as_path().to_str() {
-        Some(current) => start_at(rt, words, current, matches),
+        Some(current) => start_at(rt, args, current, matches),
         None => print_usage_error(rt, NO_CURRENT),
     }
 }
@@ -130,7 +130,7 @@ fn start_in(
 /// Runs these arguments in a given folder.
 fn start_at(
     rt: &HostRuntime,
-    words: &[&str],
+    args: &[&str],
     current: &str,
     matches: Option<(&str, &ArgMatches<'_>)>,
 ) -> CargoResult<u8> {
@@ -140,26 +140,26 @@ fn start_at(
         Err(error) => return Err(error),
     };
     let home = home.as_deref();
-    dispatch(rt, words, Folders::new(current, home), matches)
+    dispatch(rt, args, Folders::new(current, home), matches)
 }
 
 /// Runs these arguments in a given folder, with the home folder of cargo where there is one.
 fn dispatch(
     rt: &HostRuntime,
-    words: &[&str],
+    args: &[&str],
     folders: Folders<'_>,
     matches: Option<(&str, &ArgMatches<'_>)>,
 ) -> CargoResult<u8> {
     match matches {
-        Some((name, matches)) => run_checked(rt, words, folders, name, matches),
-        None => run_own(rt, words, folders),
+        Some((name, matches)) => run_checked(rt, args, folders, name, matches),
+        None => run_own(rt, args, folders),
     }
 }
 
 /// Runs a subcommand of `edit_program`, after its paths are checked.
 fn run_checked(
     rt: &HostRuntime,
-    words: &[&str],
+    args: &[&str],
     folders: Folders<'_>,
     name: &str,
     matches: &ArgMatches<'_>,
@@ -170,12 +170,12 @@ fn run_checked(
         }
     }
     let is_for_people = matches.get_str("message-format") != Some("json");
-    run_at(rt, words, folders, is_for_people)
+    run_at(rt, args, folders, is_for_people)
 }
 
 /// Runs a subcommand that needs no file. The first argument is its name.
-fn run_fileless(rt: &HostRuntime, words: &[&str]) -> CargoResult<u8> {
-    let Some((first, arguments)) = words.split_first() else {
+fn run_fileless(rt: &HostRuntime, args: &[&str]) -> CargoResult<u8> {
+    let Some((first, arguments)) = args.split_first() else {
         return Ok(2);
     };
     let mut err = errors(rt)?;
@@ -190,8 +190,8 @@ fn run_fileless(rt: &HostRuntime, words: &[&str]) -> CargoResult<u8> {
 }
 
 /// Runs a subcommand for the scripts that reads files. The first argument is its name.
-fn run_own(rt: &HostRuntime, words: &[&str], folders: Folders<'_>) -> CargoResult<u8> {
-    let Some((first, arguments)) = words.split_first() else {
+fn run_own(rt: &HostRuntime, args: &[&str], folders: Folders<'_>) -> CargoResult<u8> {
+    let Some((first, arguments)) = args.split_first() else {
         return Ok(2);
     };
     let current = folders.current;
@@ -218,7 +218,7 @@ fn next_call_at<E: Write>(
 /// Runs a subcommand of `edit_program`. Its standard output is for people, or else for programs.
 fn run_at(
     rt: &HostRuntime,
-    words: &[&str],
+    args: &[&str],
     folders: Folders<'_>,
     is_for_people: bool,
 ) -> CargoResult<u8> {
@@ -228,7 +228,7 @@ fn run_at(
     let mut err = errors(rt)?;
     let status = run(
         rt.alloc(),
-        words,
+        args,
         folders.current,
         folders.home,
         &mut files,

@@ -214,8 +214,8 @@ pub(crate) fn next_call<S: Store, O: io::Write, E: io::Write>(
 ) -> u8 {
     match answer(alloc, arguments, current, files, out, err) {
         Ok(status) => status,
-        Err(refusal) => {
-            let _ = print_error(alloc, &refusal, err);
+        Err(failure) => {
+            let _ = print_error(alloc, &failure, err);
             1
         }
     }

@@ -13,21 +13,21 @@ pub(crate) fn filled_args<'a>(
     subcommand: &'a str,
     arguments: &[&'a str],
 ) -> Result<Vec<&'a str>, AllocError> {
-    let mut words = Vec::new(alloc);
-    words.push(subcommand)?;
+    let mut args = Vec::new(alloc);
+    args.push(subcommand)?;
     for argument in arguments {
-        words.push(*argument)?;
+        args.push(*argument)?;
     }
-    insert_defaults(alloc, &words)
+    insert_defaults(alloc, &args)
 }
 
 /// Parses arguments that begin with a subcommand of `cargo-edit`.
 pub(crate) fn parse_args<'a>(
     alloc: Global,
-    words: &'a [&'a str],
+    args: &'a [&'a str],
 ) -> Result<ArgMatches<'a>, clap::Error> {
     let command = command(alloc)?;
-    command.try_get_matches_from(words)
+    command.try_get_matches_from(args)
 }
 
 /// Prints the message of a `clap` error, and returns the exit status: 0 for help and the version, else 2.

@@ -105,9 +105,9 @@ fn write_options<O: io::Write, E: io::Write>(
     err: &mut E,
 ) -> RunResult<u8> {
     let arguments = with_metadata(alloc, subcommand, arguments)?;
-    let words = filled_args(alloc, subcommand, &arguments)?;
+    let args = filled_args(alloc, subcommand, &arguments)?;
     let mut text = Vec::new(alloc);
-    match parse_args(alloc, &words) {
+    match parse_args(alloc, &args) {
         Ok(matches) => {
             if let Some((_, matches)) = matches.subcommand() {
                 push_options(&mut text, matches)?;
@@ -146,8 +146,8 @@ pub(crate) fn shell_options<O: io::Write, E: io::Write>(
     };
     match written {
         Ok(status) => status,
-        Err(refusal) => {
-            let _ = print_error(alloc, &refusal, err);
+        Err(failure) => {
+            let _ = print_error(alloc, &failure, err);
             1
         }
     }

@@ -11,7 +11,7 @@ use Rattle.edit_tree.specs.Tree.{kind_at, view_in}
 use Rattle.edit_tree.proofs.ElementWays.{are_made}
 use Rattle.edit_compare.proofs.Besides.{within_back}
 use Rattle.edit_tree.proofs.HeadedPlaces.{inside_self, inside_more}
-use Rattle.edit_compare.proofs.KeptParts.{view_none, none_view}
+use Rattle.edit_compare.proofs.RemainingParts.{view_none, none_view}
 use Rattle.edit_tree.proofs.SamePlace.{not_root, same_step_self, same_step_is}
 use Rattle.edit_tree.proofs.StayingWays.{on_one_way, kind_among, stays_kind, kind_stays, off_way, up_stays, own_stays, index_own}
 

@@ -9,8 +9,8 @@ pub mod ReplacedEntries
 pub mod UnorderedViews
 pub mod UnorderedNodes
 -- The tables and arrays that stay when an item is removed
-pub mod KeptParts
-pub mod KeptSteps
+pub mod RemainingParts
+pub mod RemainingSteps
 pub mod LostParts
 pub mod LeftAround
 pub mod RemovedTrees

@@ -98,15 +98,15 @@ module _ (d : DocumentViews) (n : ℕ) (e : DocumentViews) (m : ℕ) (t : Step) 
               (sym (x.2 k) ∙ part) (λ i f. none i (x.2 i ∙ f)) (sym (y.2 j) ∙ h)
           | inr big ↦
               let name = named_parts (node_view d n) big keys k t part in
-              let still : moved_one t s ≡ s = ap (λ z. moved_one z s) name.2 ∙ kept s name.0 in
+              let still : moved_one t s ≡ s = ap (λ z. moved_one z s) name.2 ∙ unmoved s name.0 in
               let r = (loses_parts t (node_view d n) (node_view e m) loses big).back s j
               (h ∙ ap Some still) in
               none r.0 r.1
         ]
       where
-        kept : (s : Step) (name : List ℕ) → moved_one (key name) s ≡ s
-        kept (key l) name = refl
-        kept (index i) name = refl
+        unmoved : (s : Step) (name : List ℕ) → moved_one (key name) s ≡ s
+        unmoved (key l) name = refl
+        unmoved (index i) name = refl
 
         counts : (a b : ℕ) → a ≡ suc b → element_step a k ≡ Some t → ((i : ℕ) → element_step a i ≡ Some s → ⊥)
             → element_step b j ≡ Some (moved_one t s) → ⊥

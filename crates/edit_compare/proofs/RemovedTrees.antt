@@ -10,7 +10,7 @@ use Rattle.edit_tree.specs.IntendedTrees.{Tree, place_after_removal, Loses, Same
 use Rattle.edit_tree.specs.Tree.{kind_at, view_in}
 use Rattle.edit_compare.proofs.Besides.{within_back}
 use Rattle.edit_tree.proofs.HeadedPlaces.{inside_self, inside_more, inside_trans}
-use Rattle.edit_compare.proofs.KeptParts.{apart_ways}
+use Rattle.edit_compare.proofs.RemainingParts.{apart_ways}
 use Rattle.edit_tree.proofs.SamePlace.{same_step_self, same_step_is}
 use Rattle.edit_tree.proofs.StayingWays.{on_one_way}
 use Rattle.edit_compare.proofs.LeftAround.{within_rest, moved_step, moved_back, moved_else, moved_flat, member_back, cancel, flat, up, nothing_else, one_front}

@@ -1,17 +1,17 @@
 //! Compares two documents at a node and below it.
 ghost use Rattle.std.specs.Prelude.{◌≡◌, ◌<◌, ◌≤◌, ◌+◌, length, option_map};
 ghost use Rattle.std.specs.Bool.{Decides};
-ghost use Rattle.edit_document.specs.Compared.{IsWhole, IsChildIndex, SameBelow, kind_of, word_of};
+ghost use Rattle.edit_document.specs.Compared.{IsWhole, IsChildIndex, SameBelow, kind_of, value_text};
 ghost use Rattle.edit_document.specs.Items.{node_place, node_view, names_in};
 
 use edit_document::Document;
 use edit_tree::nodes::{Content, decoded_str, span_text};
 
 /// Whether two optional texts are equal.
-pub(crate) fn is_same_text(word: Option<&str>, other: Option<&str>) -> bool
-    ensures { Decides result (option_map (λ s. s.now) word.entry ≡ option_map (λ s. s.now) other.entry) }
+pub(crate) fn is_same_text(text: Option<&str>, other: Option<&str>) -> bool
+    ensures { Decides result (option_map (λ s. s.now) text.entry ≡ option_map (λ s. s.now) other.entry) }
 {
-    match word {
+    match text {
         None => other.is_none(),
         Some(said) => match other {
             None => false,

@@ -4,7 +4,7 @@ ghost use Rattle.edit_syntax.specs.Grammar.{Text};
 ghost use Rattle.edit_tree.specs.Assertions.{IsDocument, Step as StepSeen, at};
 ghost use Rattle.edit_document.specs.Forms.{IfDocument};
 ghost use Rattle.edit_document.specs.Items.{node_place, place_view};
-ghost use Rattle.edit_document.specs.ItemRemoval.{is_named, IsKept, IsInnermost};
+ghost use Rattle.edit_document.specs.ItemRemoval.{is_named, IsRemaining, IsInnermost};
 ghost use Rattle.edit_tree.specs.DocumentViews.{tree_of};
 ghost use Rattle.edit_tree.specs.Redefinition as taking;
 
@@ -19,7 +19,7 @@ fn is_remaining(document: &Document, number: usize) -> bool
     requires inner { node_place document.now number ≡ [] → ⊥ }
     ensures { (form : Text) → (t : StepSeen) → IsDocument document.now.bytes form
         → (tree_of document.now (at (node_place document.now number) t) ≡ None → ⊥)
-        → IsKept form (node_place document.now number) t result }
+        → IsRemaining form (node_place document.now number) t result }
 {
     document.lemma_form();
     document.lemma_children(number);
@@ -40,16 +40,16 @@ pub(crate) fn steps_to_remaining(document: &Document, place: &[Step]) -> usize
     document.lemma_form();
     document.lemma_tree();
     let mut number = 0;
-    let mut kept = 0;
+    let mut remaining = 0;
     let count = place.len();
     'steps: for index in 0..count {
         if index > 0 && is_remaining(document, number) {
-            kept = index;
+            remaining = index;
         }
         let Some(next) = child_by_step(document, number, &place[index]) else {
-            return kept;
+            return remaining;
         };
         number = next;
     }
-    kept
+    remaining
 }

@@ -227,11 +227,11 @@ pub fn has_lost(document: &Document, other: &Document, place: &[Step]) -> bool
     document.lemma_form();
     document.lemma_tree();
     other.lemma_tree();
-    let kept = steps_to_remaining(document, place);
-    let Some((number, there)) = equal_around_unordered(document, other, front(place, kept)) else {
+    let remaining = steps_to_remaining(document, place);
+    let Some((number, there)) = equal_around_unordered(document, other, front(place, remaining)) else {
         return false;
     };
     document.lemma_children(number);
     document.lemma_exists(number);
-    loses_part(document, number, other, there, &place[kept])
+    loses_part(document, number, other, there, &place[remaining])
 }

@@ -21,8 +21,8 @@ fn names_near(
 }
 
 /// Adds to `Error::Locked` the first manifest that would change.
-fn explain_locked(alloc: Global, refusal: RunError, plan: &UpgradePlan) -> RunError
-    ensures { result.error ≡ refusal.error }
+fn explain_locked(alloc: Global, failure: RunError, plan: &UpgradePlan) -> RunError
+    ensures { result.error ≡ failure.error }
 {
     let place = match plan.outputs.first() {
         Some(output) => String::from_str(alloc, output.path.as_str()).ok(),
@@ -35,22 +35,22 @@ fn explain_locked(alloc: Global, refusal: RunError, plan: &UpgradePlan) -> RunEr
         place,
         cause,
         help,
-        ..refusal
+        ..failure
     }
 }
 
 /// Explains an error of a plan that is not carried out: adds the manifest that `--locked` forbids to
 /// change, or the nearest name of an entry for a missing one.
-pub fn explain_delivery(alloc: Global, refusal: RunError, plan: &UpgradePlan) -> RunError
-    ensures { result.error ≡ refusal.error }
+pub fn explain_delivery(alloc: Global, failure: RunError, plan: &UpgradePlan) -> RunError
+    ensures { result.error ≡ failure.error }
 {
-    let help = match &refusal.error {
-        Error::Locked => return explain_locked(alloc, refusal, plan),
+    let help = match &failure.error {
+        Error::Locked => return explain_locked(alloc, failure, plan),
         Error::DependenciesMissing(missing) => names_near(alloc, missing, plan),
-        _ => return refusal,
+        _ => return failure,
     };
     RunError {
         help: help.unwrap_or(None),
-        ..refusal
+        ..failure
     }
 }

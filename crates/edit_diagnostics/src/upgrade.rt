@@ -29,12 +29,12 @@ fn at_index<S: Store>(
 {
     let paths = index_files(alloc, dir, inputs, configs);
     let is_line = matches!(&error, Error::IndexLine { .. });
-    let refusal = at_first(alloc, error, &paths, files);
+    let failure = at_first(alloc, error, &paths, files);
     if !is_line {
-        return refusal;
+        return failure;
     }
     let cause = String::from_str(alloc, INDEX_LINE).ok();
-    RunError { cause, ..refusal }
+    RunError { cause, ..failure }
 }
 
 /// Adds to an error of an entry's lookup the place of the entry.
@@ -59,8 +59,8 @@ fn at_entry(alloc: Global, error: Error, inputs: &[Input], configs: &SharedConfi
 }
 
 /// The absolute path of the given index folder.
-fn folder_named(alloc: Global, asked: &SourceRequest<'_>, current: &str) -> Option<String> {
-    absolute_path(alloc, current, asked.index_dir?).ok()
+fn folder_named(alloc: Global, request: &SourceRequest<'_>, current: &str) -> Option<String> {
+    absolute_path(alloc, current, request.index_dir?).ok()
 }
 
 /// Explains an error of the plan of an upgrade over these manifests, with place and help: the manifest that
@@ -69,7 +69,7 @@ fn folder_named(alloc: Global, asked: &SourceRequest<'_>, current: &str) -> Opti
 pub fn explain_upgrade<S: Store>(
     alloc: Global,
     error: Error,
-    asked: &SourceRequest<'_>,
+    request: &SourceRequest<'_>,
     current: &str,
     inputs: &[Input],
     configs: &SharedConfigs,
@@ -82,7 +82,7 @@ pub fn explain_upgrade<S: Store>(
         Error::Memory => RunError::from(error),
         Error::NotToml { .. } | Error::NotUtf8 => at_input(alloc, error, inputs),
         Error::IndexLine { .. } | Error::Device(_) => {
-            let dir = folder_named(alloc, asked, current);
+            let dir = folder_named(alloc, request, current);
             at_index(alloc, error, dir.as_deref(), inputs, configs, files)
         }
         _ => at_entry(alloc, error, inputs, configs),

@@ -12,7 +12,7 @@ use Rattle.edit_tree.specs.Walk.{without_pending, is_dotted_within}
 use Rattle.edit_tree.proofs.SamePlace.{same_place_self, other_place, last_same, not_root, not_below}
 use Rattle.edit_tree.proofs.MoreAssertions.{first_kind, first_stays, first_is}
 use Rattle.edit_tree.proofs.Trees.{Grows}
-use Rattle.edit_document.proofs.AssertedSpots.{Stands, nothing_below_spot}
+use Rattle.edit_document.proofs.AssertedModels.{Stands, nothing_below_model}
 use Rattle.edit_tree.proofs.PlainValues.{HasLeaf, leaf_there}
 use Rattle.edit_tree.proofs.Parts.{deep_value, kind_deep, kind_append}
 use Rattle.edit_document.proofs.Arrays.{elements_are, elements_none_at}
@@ -26,13 +26,13 @@ use Rattle.edit_document.proofs.WalkedHolders.{Before, IsBefore, bare_at, deeper
 -- behind the key of a pair
 abbrev pub pair_before : List ModelNode → List Assertion → List Placed → List ℕ → ℕ → Place → Bool → List ℕ
     → List (List ℕ) → Before
-pair_before spots made written base t p within n ns = record {
-  spots = spots;
+pair_before models made written base t p within n ns = record {
+  models = models;
   made = made;
   written = written;
   tables = base ++ t ∷ [];
   place = named p (n ∷ ns);
-  waiting = waits (without_pending spots (base ++ t ∷ [])) (n ∷ ns);
+  waiting = waits (without_pending models (base ++ t ∷ [])) (n ∷ ns);
   keyed = λ v. of_key within (named p (n ∷ ns)) p (n ∷ ns) v;
 }
 
@@ -61,18 +61,18 @@ named_inner : (p : Place) (n : List ℕ) (ns : List (List ℕ)) → named p (n �
 named_inner p n ns e = let l : length (named p (n ∷ ns)) ≡ 0 = ap length e in
     let size = length-append p (map key (n ∷ ns)) in omega arith
 
-pub pair_is_before : (spots : List ModelNode) (made : List Assertion) (written : List Placed) (base : List ℕ)
-    (t : ℕ) (p : Place) (within : Bool) (n : List ℕ) (ns : List (List ℕ)) → Stands made written spots
-    → StandsAt spots t p
+pub pair_is_before : (models : List ModelNode) (made : List Assertion) (written : List Placed) (base : List ℕ)
+    (t : ℕ) (p : Place) (within : Bool) (n : List ℕ) (ns : List (List ℕ)) → Stands made written models
+    → StandsAt models t p
     → is_dotted_within (length (base ++ t ∷ [])) Dotted ≡ within
-    → IsBefore (pair_before spots made written base t p within n ns)
-pair_is_before spots made written base t p within n ns st there in_table = record {
-  enters_at = λ v span. pair_enters spots base t p n ns within
+    → IsBefore (pair_before models made written base t p within n ns)
+pair_is_before models made written base t p within n ns st there in_table = record {
+  enters_at = λ v span. pair_enters models base t p n ns within
       (named p (n ∷ ns)) v span made written in_table st there;
   vacant_at = λ v clear. vacant made within (named p (n ∷ ns)) p n ns v clear;
   low = λ v. key_low within (named p (n ∷ ns)) p n ns v (at (named p (n ∷ ns)) (index 0))
       (let l = length_push (named p (n ∷ ns)) (index 0) in omega arith);
-  told = λ v. key_has within (named p (n ∷ ns)) p n ns v;
+  has_leaf = λ v. key_has within (named p (n ∷ ns)) p n ns v;
   stands = st;
   inner = named_inner p n ns;
   deep = λ j. deeper base t j;
@@ -80,39 +80,39 @@ pair_is_before spots made written base t p within n ns st there in_table = recor
 
 -- before an element of an array
 abbrev pub element_before : List ModelNode → List Assertion → List Placed → List ℕ → ℕ → Place → ℕ → Before
-element_before spots made written base t p i = record {
-  spots = spots;
+element_before models made written base t p i = record {
+  models = models;
   made = made;
   written = written;
   tables = base ++ t ∷ [];
   place = at p (index i);
-  waiting = without_pending spots (base ++ t ∷ []);
+  waiting = without_pending models (base ++ t ∷ []);
   keyed = λ v. asserts (at p (index i)) (at p (index i)) (leaf v) ∷ [];
 }
 
 -- the array at a place, of which so many elements stand
-pub record IsArrayAt (spots : List ModelNode) (made : List Assertion) (t : ℕ) (p : Place)
+pub record IsArrayAt (models : List ModelNode) (made : List Assertion) (t : ℕ) (p : Place)
     (i total : ℕ) : Type 0 where
-  pub there : StandsAt spots t p
+  pub there : StandsAt models t p
   pub size : length there.0.elements ≡ i
   pub gap_of : List Between
   pub all : Elements
   pub first : first_kind made p ≡ Some (leaf (array gap_of all))
   pub whole : total ≡ count_elements all
 
-pub element_is_before : (spots : List ModelNode) (made : List Assertion) (written : List Placed) (base : List ℕ)
-    (t : ℕ) (p : Place) (i total : ℕ) → Stands made written spots → IsArrayAt spots made t p i total
-    → i < total → IsBefore (element_before spots made written base t p i)
-element_is_before spots made written base t p i total st a lt =
+pub element_is_before : (models : List ModelNode) (made : List Assertion) (written : List Placed) (base : List ℕ)
+    (t : ℕ) (p : Place) (i total : ℕ) → Stands made written models → IsArrayAt models made t p i total
+    → i < total → IsBefore (element_before models made written base t p i)
+element_is_before models made written base t p i total st a lt =
     let few : i < count_elements a.all = let w = a.whole in omega arith in
     record {
-      enters_at = λ v span. element_enters spots base t p i a.gap_of a.all v span made written st a.there
+      enters_at = λ v span. element_enters models base t p i a.gap_of a.all v span made written st a.there
           a.size a.first few;
-      vacant_at = λ v clear. element_vacant spots t p i made written st a.there a.size;
+      vacant_at = λ v clear. element_vacant models t p i made written st a.there a.size;
       low = λ v. ap (λ (b : Bool). cond b (Some (leaf v)) None)
           (other_place (at p (index i)) (at (at p (index i)) (index 0))
           (λ e. not_below (at p (index i)) (index 0) (sym e)));
-      told = λ v. inl (refl, refl);
+      has_leaf = λ v. inl (refl, refl);
       stands = st;
       inner = not_root p (index i);
       deep = λ j. deeper base t j;
@@ -125,13 +125,13 @@ first_front made (a ∷ more) p k e = ap (λ (xs : List Assertion). first_kind x
     (sym (append_assoc made (a ∷ []) more)) ∙ first_front (made ++ a ∷ []) more p k (first_stays made a p k e)
 
 -- one element more stands
-pub array_more : (spots now : List ModelNode) (made : List Assertion) (written written2 : List Placed) (t : ℕ)
-    (p : Place) (i total : ℕ) (v : Value) → Stands made written spots → IsArrayAt spots made t p i total
+pub array_more : (models now : List ModelNode) (made : List Assertion) (written written2 : List Placed) (t : ℕ)
+    (p : Place) (i total : ℕ) (v : Value) → Stands made written models → IsArrayAt models made t p i total
     → Stands (made ++ (asserts (at p (index i)) (at p (index i)) (leaf v) ∷ of_value (at p (index i)) v))
-    written2 now → Grows spots now
+    written2 now → Grows models now
     → IsArrayAt now (made ++ (asserts (at p (index i)) (at p (index i)) (leaf v) ∷ of_value
     (at p (index i)) v)) t p (suc i) total
-array_more spots now made written written2 t p i total v st a st2 grows =
+array_more models now made written written2 t p i total v st a st2 grows =
     let q = at p (index i) in
     let r = at p (index (suc i)) in
     let one : Assertion = asserts (at p (index i)) (at p (index i)) (leaf v) in
@@ -141,7 +141,7 @@ array_more spots now made written written2 t p i total v st a st2 grows =
     let u = grows t p a.there in
     let bare : (j : ℕ) → i ≤ j → kind_at made (at p (index j)) ≡ None = λ j le.
     ap (λ (z : Place). kind_at made (at z (index j))) (sym a.there.2) ∙
-    nothing_below_spot made written spots t s (index j) st a.there.1
+    nothing_below_model made written models t s (index j) st a.there.1
     (slice_get_past s.elements j (let e = a.size in omega arith)) in
     let here : kind_at all q ≡ Some (leaf v) = kind_append made block q (bare i (omega arith)) ∙
     ap (λ (b : Bool). cond b (Some (leaf v)) (kind_at (of_value q v) q)) (same_place_self q) in
@@ -176,7 +176,7 @@ array_new b now written j g es h st there =
     let v : Value = array g es in
     let all = b.made ++ b.keyed (array g es) in
     let kind : kind_at all b.place ≡ Some (leaf (array g es)) =
-    leaf_there b.place v all st.clear.apart (has_right b.place v b.made (b.keyed v) (h.told v)) in
+    leaf_there b.place v all st.clear.apart (has_right b.place v b.made (b.keyed v) (h.has_leaf v)) in
     let none : kind_at all (at there.0.place (index 0)) ≡ None =
     ap (λ (q : Place). kind_at all (at q (index 0))) there.2 ∙ bare_at b v h st.clear in
     record {

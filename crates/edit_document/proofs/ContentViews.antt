@@ -6,7 +6,7 @@ use Rattle.edit_tree.specs.DocumentViews.{DocumentViews}
 use Rattle.edit_tree.specs.Tree.{View}
 use Rattle.edit_tree.specs.Nodes.{ModelNode, elements_of, shape_of, view_of_shape}
 use Rattle.edit_document.specs.Items.{node_view}
-use Rattle.edit_document.specs.Compared.{kind_of, word_of}
+use Rattle.edit_document.specs.Compared.{kind_of, value_text}
 use Rattle.edit_document.proofs.Views.{Found, names_of_node}
 
 -- what a node with this content shows
@@ -15,15 +15,15 @@ content_view d node x =
     view_of_shape (shape_of d.bytes x) (names_of_node d.bytes node) (length (elements_of node.members))
 
 -- and of which kind that is
-pub kind_shown : (d : DocumentViews) (nodes : List Node) (spots : List ModelNode) (n : ℕ) (node : Node) (x : Content)
-    → Found d nodes spots n node → node.content ≡ x → kind_of (content_view d node x)
+pub kind_shown : (d : DocumentViews) (nodes : List Node) (models : List ModelNode) (n : ℕ) (node : Node) (x : Content)
+    → Found d nodes models n node → node.content ≡ x → kind_of (content_view d node x)
     ≡ kind_of (node_view d n)
-kind_shown d nodes spots n node x f is =
+kind_shown d nodes models n node x f is =
     sym (ap kind_of f.view ∙ ap (λ (y : Content). kind_of (content_view d node y)) is)
 
 -- and in which words
-pub word_shown : (d : DocumentViews) (nodes : List Node) (spots : List ModelNode) (n : ℕ) (node : Node) (x : Content)
-    → Found d nodes spots n node → node.content ≡ x → word_of (content_view d node x)
-    ≡ word_of (node_view d n)
-word_shown d nodes spots n node x f is =
-    sym (ap word_of f.view ∙ ap (λ (y : Content). word_of (content_view d node y)) is)
+pub value_text_shown : (d : DocumentViews) (nodes : List Node) (models : List ModelNode) (n : ℕ) (node : Node) (x : Content)
+    → Found d nodes models n node → node.content ≡ x → value_text (content_view d node x)
+    ≡ value_text (node_view d n)
+value_text_shown d nodes models n node x f is =
+    sym (ap value_text f.view ∙ ap (λ (y : Content). value_text (content_view d node y)) is)

@@ -24,7 +24,7 @@ use Rattle.edit_tree.specs.WalkState.{IsToken, KeepsState}
 use Rattle.edit_syntax.proofs.TextLaws.{read_again}
 use Rattle.edit_tree.proofs.Ends.{Ends}
 use Rattle.edit_tree.proofs.Shallow.{manifest_form, one_form}
-use Rattle.edit_document.proofs.AssertedSpots.{Stands}
+use Rattle.edit_document.proofs.AssertedModels.{Stands}
 use Rattle.edit_document.proofs.WalkedLines.{Walked as Walks, ended, stuck, text_walked, text_even}
 use Rattle.edit_document.proofs.ShownTrees.{AreFull, tree_shown}
 use Rattle.edit_tree.proofs.Parts.{any_stands, has_kind, text_whole}
@@ -39,7 +39,7 @@ pub read_of : (bytes : List ℕ) (form : Text) → IsDocument bytes form → IsU
 read_of bytes form m u = record { spells = m.grammar; utf8 = u }
 
 pub ends_all : (bytes : List ℕ) (form : Text) → Read bytes form → Ends bytes (lines form.lines)
-ends_all bytes form r = behind form.marked (lines form.lines) r.spells.spelled
+ends_all bytes form r = behind form.has_byte_order_mark (lines form.lines) r.spells.spelled
   where
     behind : (b : Bool) (rest : List ℕ) → bytes ≡ byte_order_mark b rest → Ends bytes rest
     behind true rest e = (0xEF ∷ (0xBB ∷ (0xBF ∷ [])), e)
@@ -57,10 +57,10 @@ walk_of bytes form r = text_walked bytes form r.spells.well_formed r.utf8 (ends_
 
 -- what is walked over is a document
 pub record Walked (bytes : List ℕ) (form : Text) (nodes : List Node) : Type 0 where
-  pub spots : List ModelNode
-  pub found : model_nodes_of bytes ≡ Some spots
-  pub stands : Stands (assertions form) (map placed (values form)) spots
-  pub holds : RepresentsNodes bytes nodes spots
+  pub models : List ModelNode
+  pub found : model_nodes_of bytes ≡ Some models
+  pub stands : Stands (assertions form) (map placed (values form)) models
+  pub holds : RepresentsNodes bytes nodes models
   pub manifest : IsDocument bytes form
 
 pub walked_is : (bytes : List ℕ) (form : Text) (nodes : List Node) → Read bytes form
@@ -73,9 +73,9 @@ walked_is bytes form nodes r keeps = go (walk_of bytes form r)
         let manifest : IsDocument bytes form =
         record { grammar = r.spells; short = st.clear.short; no_clash = st.clear.apart } in
         record {
-          spots = now;
-          found = ap (λ (o : Option Text). o >>= λ f. state_after bytes (tokens_of_text f) start >>= λ s. Some s.spots)
-              (manifest_form bytes form manifest) ∙ ap (λ (o : Option State). o >>= λ s. Some s.spots) e;
+          models = now;
+          found = ap (λ (o : Option Text). o >>= λ f. state_after bytes (tokens_of_text f) start >>= λ s. Some s.models)
+              (manifest_form bytes form manifest) ∙ ap (λ (o : Option State). o >>= λ s. Some s.models) e;
           stands = st;
           holds = subst (KeepsState bytes nodes) e keeps;
           manifest = manifest;
@@ -102,20 +102,20 @@ pub shows_form : (bytes : List ℕ) (r : ℕ × ℕ) (form : Text) (nodes : List
 unfolding document_view_by
 shows_form bytes r form nodes w place =
     ap (λ (o : Option (List ModelNode)). node_at (node_views o) place) w.found ∙
-    tree_shown (assertions form) (map placed (values form)) w.spots place w.stands (text_even form)
+    tree_shown (assertions form) (map placed (values form)) w.models place w.stands (text_even form)
     (text_full form)
 
 pub read_is : (inside : Inside) (form : Text) → IsRange (string_bytes inside.text) inside.written
     → Walked (string_bytes inside.text) form inside.nodes.items → IsRead inside
 read_is inside form range w = record {
   written = range;
-  spots = w.spots;
+  models = w.models;
   found = w.found;
   form = form;
   manifest = w.manifest;
   holds = w.holds;
   tree = w.stands.tree;
-  views = λ place. tree_shown (assertions form) (map placed (values form)) w.spots place w.stands
+  views = λ place. tree_shown (assertions form) (map placed (values form)) w.models place w.stands
       (text_even form) (text_full form);
   spans = λ n s e. (w.stands.tells n s e).span;
 }
@@ -123,20 +123,20 @@ read_is inside form range w = record {
 -- ---- what reading answers
 
 abbrev pub Found : List ℕ → List SyntaxToken → Type 0
-Found bytes marks = (form : Text) × Spells bytes form × (text_depth form ≤ 80) × (marks ≡ tokens_of_text form)
+Found bytes tokens = (form : Text) × Spells bytes form × (text_depth form ≤ 80) × (tokens ≡ tokens_of_text form)
 
-read_form : (bytes seen : List ℕ) (marks : List SyntaxToken) → IsUtf8 bytes → seen ≡ bytes
-    → (f : Found seen marks)
+read_form : (bytes seen : List ℕ) (tokens : List SyntaxToken) → IsUtf8 bytes → seen ≡ bytes
+    → (f : Found seen tokens)
     → Read bytes f.0
-read_form bytes seen marks u same f =
+read_form bytes seen tokens u same f =
     record { spells = subst (λ (b : List ℕ). Spells b f.0) same f.1; utf8 = u }
 
-pub read_done : (bytes seen : List ℕ) (marks slice : List SyntaxToken) (nodes : List Node) → IsUtf8 bytes
-    → seen ≡ bytes → Found seen marks → slice ≡ marks
+pub read_done : (bytes seen : List ℕ) (tokens slice : List SyntaxToken) (nodes : List Node) → IsUtf8 bytes
+    → seen ≡ bytes → Found seen tokens → slice ≡ tokens
     → (AllByRecursion (IsToken bytes) slice → KeepsState bytes nodes (state_after bytes slice start))
     → (form : Text) × Walked bytes form nodes
-read_done bytes seen marks slice nodes u same f whole keeps =
-    let r = read_form bytes seen marks u same f in
+read_done bytes seen tokens slice nodes u same f whole keeps =
+    let r = read_form bytes seen tokens u same f in
     let all : slice ≡ tokens_of_text f.0 = whole ∙ f.3 in
     let k : AllByRecursion (IsToken bytes) (tokens_of_text f.0)
     → KeepsState bytes nodes (state_after bytes (tokens_of_text f.0) start) =
@@ -159,15 +159,15 @@ memory_or n Memory h = inl refl
 memory_or n _ h = absurd h
 
 -- a document is refused for want of memory alone
-pub refused_memory : (bytes seen : List ℕ) (marks slice : List SyntaxToken) (form : Text) (e : Error) (n : ℕ)
-    → IsUtf8 bytes → seen ≡ bytes → Found seen marks → slice ≡ marks → IsTokenizeError n e
+pub refused_memory : (bytes seen : List ℕ) (tokens slice : List SyntaxToken) (form : Text) (e : Error) (n : ℕ)
+    → IsUtf8 bytes → seen ≡ bytes → Found seen tokens → slice ≡ tokens → IsTokenizeError n e
     → (AllByRecursion (IsToken bytes) slice → NotMemory e → state_after bytes slice start ≡ None)
     → IsDocument bytes form → IsMemory e
-refused_memory bytes seen marks slice form e n u same f whole refusal stop m =
-    elim (memory_or n e refusal) [
+refused_memory bytes seen tokens slice form e n u same f whole failure stop m =
+    elim (memory_or n e failure) [
       | inl y ↦ y
       | inr other ↦
-          let r = read_form bytes seen marks u same f in
+          let r = read_form bytes seen tokens u same f in
           let all : slice ≡ tokens_of_text f.0 = whole ∙ f.3 in
           let s : AllByRecursion (IsToken bytes) (tokens_of_text f.0) → NotMemory e
           → state_after bytes (tokens_of_text f.0) start ≡ None =
@@ -194,9 +194,9 @@ pub no_document : (bytes : List ℕ) → IsUtf8 bytes → model_nodes_of bytes �
 no_document bytes u none form m =
     refused_is bytes form m u
     (stops (state_after bytes (tokens_of_text form) start)
-    (ap (λ (o : Option Text). o >>= λ f. state_after bytes (tokens_of_text f) start >>= λ s. Some s.spots)
+    (ap (λ (o : Option Text). o >>= λ f. state_after bytes (tokens_of_text f) start >>= λ s. Some s.models)
     (sym (manifest_form bytes form m)) ∙ none))
   where
-    stops : (o : Option State) → (o >>= λ s. Some s.spots) ≡ None → o ≡ None
+    stops : (o : Option State) → (o >>= λ s. Some s.models) ≡ None → o ≡ None
     stops None e = refl
-    stops (Some s) e = absurd (let clash : Some s.spots ≡ None = e in cc)
+    stops (Some s) e = absurd (let clash : Some s.models ≡ None = e in cc)

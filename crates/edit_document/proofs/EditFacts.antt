@@ -73,6 +73,6 @@ pub removes : (old : List ℕ) (place : Place) (new : List ℕ)
 removes old place new e = meets old (is_left (removed_text place) new) e
 
 -- it is told whether one pair alone names a place
-abbrev pub is_told : Place → Bool → Text → Bool
-is_told place true form = is_one_statement form place
-is_told place false form = not (is_one_statement form place)
+abbrev pub is_one_pair : Place → Bool → Text → Bool
+is_one_pair place true form = is_one_statement form place
+is_one_pair place false form = not (is_one_statement form place)

@@ -5,7 +5,7 @@ use Rattle.edit_syntax.specs.Grammar.{value}
 use Rattle.edit_tree.specs.Assertions.{key, index}
 use Rattle.edit_tree.specs.NewItems.{a_string, a_truth, a_list, a_value, a_table, item_value, new_pair}
 use Rattle.edit_tree.proofs.OnTexts.{on_texts}
-use Rattle.edit_document.proofs.EditFacts.{Meets, meets, Sets, sets, ReplacesEntry, replaces_entry, Inserts, inserts, is_told}
+use Rattle.edit_document.proofs.EditFacts.{Meets, meets, Sets, sets, ReplacesEntry, replaces_entry, Inserts, inserts, is_one_pair}
 
 -- a registry requirement as an entry
 pub a_string_entry : value (item_value (a_value (a_string (codes "1.0")))) [] ≡ (codes "\"1.0\"")
@@ -216,50 +216,50 @@ a_tag_behind_a_branch = inserts (codes "x = { git = \"u\", branch = \"b\" }") (k
     (codes "tag") (a_string (codes "t")) (codes "x = { git = \"u\", branch = \"b\", tag = \"t\" }") refl
 
 -- a pair
-pub a_pair_is_one : Meets (codes "x = \"1\"\n[y]\n") (is_told (key (codes "x") ∷ []) true)
+pub a_pair_is_one : Meets (codes "x = \"1\"\n[y]\n") (is_one_pair (key (codes "x") ∷ []) true)
 unfolding on_texts
-a_pair_is_one = meets (codes "x = \"1\"\n[y]\n") (is_told (key (codes "x") ∷ []) true) refl
+a_pair_is_one = meets (codes "x = \"1\"\n[y]\n") (is_one_pair (key (codes "x") ∷ []) true) refl
 
 -- a pair of a dotted key
-pub a_dotted_pair_is_one : Meets (codes "x.version = \"1\"") (is_told (key (codes "x") ∷ []) true)
+pub a_dotted_pair_is_one : Meets (codes "x.version = \"1\"") (is_one_pair (key (codes "x") ∷ []) true)
 unfolding on_texts
-a_dotted_pair_is_one = meets (codes "x.version = \"1\"") (is_told (key (codes "x") ∷ []) true) refl
+a_dotted_pair_is_one = meets (codes "x.version = \"1\"") (is_one_pair (key (codes "x") ∷ []) true) refl
 
 -- a dotted member of an inline table
 pub a_member_is_one : Meets (codes "x = { a.b = 1, c = 2 }")
-    (is_told (key (codes "x") ∷ key (codes "a") ∷ []) true)
+    (is_one_pair (key (codes "x") ∷ key (codes "a") ∷ []) true)
 unfolding on_texts
 a_member_is_one = meets (codes "x = { a.b = 1, c = 2 }")
-    (is_told (key (codes "x") ∷ key (codes "a") ∷ []) true) refl
+    (is_one_pair (key (codes "x") ∷ key (codes "a") ∷ []) true) refl
 
 -- two pairs of dotted keys
-pub two_pairs_are_two : Meets (codes "x.a = 1\nx.b = 2") (is_told (key (codes "x") ∷ []) false)
+pub two_pairs_are_two : Meets (codes "x.a = 1\nx.b = 2") (is_one_pair (key (codes "x") ∷ []) false)
 unfolding on_texts
-two_pairs_are_two = meets (codes "x.a = 1\nx.b = 2") (is_told (key (codes "x") ∷ []) false) refl
+two_pairs_are_two = meets (codes "x.a = 1\nx.b = 2") (is_one_pair (key (codes "x") ∷ []) false) refl
 
 -- a header
-pub a_header_is_none : Meets (codes "[x]\na = 1") (is_told (key (codes "x") ∷ []) false)
+pub a_header_is_none : Meets (codes "[x]\na = 1") (is_one_pair (key (codes "x") ∷ []) false)
 unfolding on_texts
-a_header_is_none = meets (codes "[x]\na = 1") (is_told (key (codes "x") ∷ []) false) refl
+a_header_is_none = meets (codes "[x]\na = 1") (is_one_pair (key (codes "x") ∷ []) false) refl
 
 -- a header that goes through the place
-pub a_way_is_none : Meets (codes "[x.y]\na = 1") (is_told (key (codes "x") ∷ []) false)
+pub a_way_is_none : Meets (codes "[x.y]\na = 1") (is_one_pair (key (codes "x") ∷ []) false)
 unfolding on_texts
-a_way_is_none = meets (codes "[x.y]\na = 1") (is_told (key (codes "x") ∷ []) false) refl
+a_way_is_none = meets (codes "[x.y]\na = 1") (is_one_pair (key (codes "x") ∷ []) false) refl
 
 -- a pair, and a header below its table
 pub a_header_below_counts : Meets (codes "[f]\na.b = 1\n[f.a.c]")
-    (is_told (key (codes "f") ∷ key (codes "a") ∷ []) false)
+    (is_one_pair (key (codes "f") ∷ key (codes "a") ∷ []) false)
 unfolding on_texts
 a_header_below_counts = meets (codes "[f]\na.b = 1\n[f.a.c]")
-    (is_told (key (codes "f") ∷ key (codes "a") ∷ []) false) refl
+    (is_one_pair (key (codes "f") ∷ key (codes "a") ∷ []) false) refl
 
 -- an element of an array
-pub an_element_is_none : Meets (codes "x = [1]") (is_told (key (codes "x") ∷ index 0 ∷ []) false)
+pub an_element_is_none : Meets (codes "x = [1]") (is_one_pair (key (codes "x") ∷ index 0 ∷ []) false)
 unfolding on_texts
-an_element_is_none = meets (codes "x = [1]") (is_told (key (codes "x") ∷ index 0 ∷ []) false) refl
+an_element_is_none = meets (codes "x = [1]") (is_one_pair (key (codes "x") ∷ index 0 ∷ []) false) refl
 
 -- the root
-pub the_root_is_none : Meets (codes "x = 1") (is_told [] false)
+pub the_root_is_none : Meets (codes "x = 1") (is_one_pair [] false)
 unfolding on_texts
-the_root_is_none = meets (codes "x = 1") (is_told [] false) refl
+the_root_is_none = meets (codes "x = 1") (is_one_pair [] false) refl

@@ -12,7 +12,7 @@ use Rattle.edit_tree.specs.Tree.{View, string, truth, whole, fractional, moment,
 use Rattle.edit_tree.specs.DocumentViews.{node_at}
 use Rattle.edit_syntax.specs.FormOf.{form_of}
 use Rattle.edit_syntax.specs.SyntaxTokens.{tokens_of_text}
-use Rattle.edit_syntax.specs.Reading.{◌>>=◌, read_text, lines_at, is_marked, skip_byte_order_mark}
+use Rattle.edit_syntax.specs.Reading.{◌>>=◌, read_text, lines_at, begins_with_byte_order_mark, skip_byte_order_mark}
 use Rattle.edit_tree.specs.Walk.{State, start, state_after}
 use Rattle.edit_tree.specs.Written.{values}
 use Rattle.edit_document.specs.DocumentLayout.{placed, model_nodes_of, node_views}
@@ -46,12 +46,12 @@ form_spells bytes form e = go (lines_at 80 (length (skip_byte_order_mark bytes) 
         → lines_at 80 (length (skip_byte_order_mark bytes) + 1) (skip_byte_order_mark bytes) ≡ o
         → Spells bytes form
     go None h = let no : None ≡ Some form =
-        sym (ap (λ (o : Option Lines). o >>= λ ls. Some (record { marked = is_marked bytes; lines = ls }))
+        sym (ap (λ (o : Option Lines). o >>= λ ls. Some (record { has_byte_order_mark = begins_with_byte_order_mark bytes; lines = ls }))
         h) ∙ e in absurd (never form no)
     go (Some ls) h =
-        let is : Some (record { marked = is_marked bytes; lines = ls })
+        let is : Some (record { has_byte_order_mark = begins_with_byte_order_mark bytes; lines = ls })
         ≡ Some form = sym (ap
-        (λ (o : Option Lines). o >>= λ ls. Some (record { marked = is_marked bytes; lines = ls })) h) ∙ e in
+        (λ (o : Option Lines). o >>= λ ls. Some (record { has_byte_order_mark = begins_with_byte_order_mark bytes; lines = ls })) h) ∙ e in
         let r = lines_read 80 (skip_byte_order_mark bytes) ls h in
         subst (Spells bytes) (same_Some _ _ is) (lines_found 80 bytes ls r.0 r.1.valid r.1.shallow).spells
 
@@ -59,10 +59,10 @@ form_spells bytes form e = go (lines_at 80 (length (skip_byte_order_mark bytes) 
 
 -- the nodes of the walk over the marks of a form
 abbrev nodes_along : List ℕ → Option Text → List (Place × View)
-nodes_along bytes o = node_views (o >>= λ form. state_after bytes (tokens_of_text form) start >>= λ st. Some st.spots)
+nodes_along bytes o = node_views (o >>= λ form. state_after bytes (tokens_of_text form) start >>= λ st. Some st.models)
 
 abbrev nodes_after : Option State → List (Place × View)
-nodes_after o = node_views (o >>= λ st. Some st.spots)
+nodes_after o = node_views (o >>= λ st. Some st.models)
 
 -- what a node of the walk shows stands in the tree
 node_shows : (bytes : List ℕ) (place : Place) (view : View) → is_utf8 bytes ≡ true

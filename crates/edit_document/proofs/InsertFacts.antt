@@ -255,17 +255,17 @@ into_a_root_of_headers = inserts (codes "# c\n\n[a]\n") [] (codes "n") (a_truth 
     (codes "n = true\n# c\n\n[a]\n") refl
 
 -- the root without pairs, behind U+FEFF
-pub into_a_marked_root : Inserts (0xEF ∷ 0xBB ∷ 0xBF ∷ codes "[a]\r\n") [] (codes "n") (a_truth true)
+pub into_a_root_behind_a_byte_order_mark : Inserts (0xEF ∷ 0xBB ∷ 0xBF ∷ codes "[a]\r\n") [] (codes "n") (a_truth true)
     (0xEF ∷ 0xBB ∷ 0xBF ∷ codes "n = true\n[a]\r\n")
 unfolding on_texts
-into_a_marked_root = inserts (0xEF ∷ 0xBB ∷ 0xBF ∷ codes "[a]\r\n") [] (codes "n") (a_truth true)
+into_a_root_behind_a_byte_order_mark = inserts (0xEF ∷ 0xBB ∷ 0xBF ∷ codes "[a]\r\n") [] (codes "n") (a_truth true)
     (0xEF ∷ 0xBB ∷ 0xBF ∷ codes "n = true\n[a]\r\n") refl
 
 -- the root with pairs, behind U+FEFF
-pub into_a_marked_root_with_pairs : Inserts (0xEF ∷ 0xBB ∷ 0xBF ∷ codes "x = 1\r\n") [] (codes "n")
+pub into_a_root_with_pairs_behind_a_byte_order_mark : Inserts (0xEF ∷ 0xBB ∷ 0xBF ∷ codes "x = 1\r\n") [] (codes "n")
     (a_truth true) (0xEF ∷ 0xBB ∷ 0xBF ∷ codes "x = 1\r\nn = true\r\n")
 unfolding on_texts
-into_a_marked_root_with_pairs = inserts (0xEF ∷ 0xBB ∷ 0xBF ∷ codes "x = 1\r\n") [] (codes "n")
+into_a_root_with_pairs_behind_a_byte_order_mark = inserts (0xEF ∷ 0xBB ∷ 0xBF ∷ codes "x = 1\r\n") [] (codes "n")
     (a_truth true) (0xEF ∷ 0xBB ∷ 0xBF ∷ codes "x = 1\r\nn = true\r\n") refl
 
 -- an empty text

@@ -15,7 +15,7 @@ use Rattle.edit_tree.proofs.Ends.{take_length}
 use Rattle.edit_syntax.proofs.ListElements.{OneSet, changed, other, in_set}
 use Rattle.edit_tree.proofs.MoreAssertions.{allowed, IsClear, clash_last}
 use Rattle.edit_tree.proofs.Trees.{Grows, grows_then, grows_set, tree_set}
-use Rattle.edit_document.proofs.AssertedSpots.{Tells, Stands}
+use Rattle.edit_document.proofs.AssertedModels.{Tells, Stands}
 use Rattle.edit_tree.proofs.ThinnedLines.{leaf_alone}
 use Rattle.edit_tree.proofs.Walks.{last_push}
 use Rattle.std.proofs.lemmas.Bool.{and_parts}
@@ -100,23 +100,23 @@ span_off (w ∷ ws) vs q p x y ne = ap (λ (o : Option Span). cond (same_place w
     (span_off ws vs q p x y ne)
 
 -- the spot of the place is told otherwise too
-respanned : (made : List Assertion) (ws vs : List Placed) (spots : List ModelNode) (q : Place) (x y : Span) (j : ℕ)
-    (s : ModelNode) → Stands made (ws ++ (q, x) ∷ vs) spots → span_at ws q ≡ None → slice_get spots j ≡ Some s
+respanned : (made : List Assertion) (ws vs : List Placed) (models : List ModelNode) (q : Place) (x y : Span) (j : ℕ)
+    (s : ModelNode) → Stands made (ws ++ (q, x) ∷ vs) models → span_at ws q ≡ None → slice_get models j ≡ Some s
     → s.place ≡ q
-    → Stands made (ws ++ (q, y) ∷ vs) (slice_set spots j (record s { span = Some y }))
-respanned made ws vs spots q x y j s st none here place = record {
-  tree = tree_set spots j s (record s { span = Some y }) st.tree here refl refl refl;
+    → Stands made (ws ++ (q, y) ∷ vs) (slice_set models j (record s { span = Some y }))
+respanned made ws vs models q x y j s st none here place = record {
+  tree = tree_set models j s (record s { span = Some y }) st.tree here refl refl refl;
   tells = λ n u e. tell n u
-      (in_set spots j (record s { span = Some y }) n u (slice_get_within spots j s here) e);
+      (in_set models j (record s { span = Some y }) n u (slice_get_within models j s here) e);
   covers = λ p k e. let c = st.covers p k e in
-      (c.0, grows_set spots j s (record s { span = Some y }) here refl c.0 p c.1);
+      (c.0, grows_set models j s (record s { span = Some y }) here refl c.0 p c.1);
   rooted = st.rooted;
   indexed = st.indexed;
   spans = spans_there;
   clear = st.clear;
 }
   where
-    tell : (n : ℕ) (u : ModelNode) → OneSet spots j (record s { span = Some y }) n u
+    tell : (n : ℕ) (u : ModelNode) → OneSet models j (record s { span = Some y }) n u
         → Tells made (ws ++ (q, y) ∷ vs) u
     tell n u (changed same is) =
         let t = st.tells j s here in

@@ -2,7 +2,7 @@
 pub mod Views
 pub mod MemberViews
 -- The assertions of statements, and their model nodes
-pub mod AssertedSpots
+pub mod AssertedModels
 pub mod NewAssertions
 pub mod MemberAssertions
 pub mod HeaderFronts
@@ -55,4 +55,4 @@ pub mod EntryFacts
 pub mod InsertFacts
 pub mod RemoveFacts
 -- The tables and arrays that stay when an item is removed
-pub mod KeptNodes
+pub mod RemainingNodes

@@ -18,54 +18,54 @@ use Rattle.edit_tree.specs.Nodes.{ModelNode, StandsAt, below}
 use Rattle.edit_tree.specs.Walk.{model_node_at, target_of, with_definition, node_extended, with_member, with_element, member_added, element_added, with_index, member_defined}
 use Rattle.edit_tree.proofs.SamePlace.{not_root}
 use Rattle.edit_syntax.proofs.ListElements.{get_front, get_last, equal_or}
-use Rattle.edit_tree.proofs.SpotNodes.{child_is}
-use Rattle.edit_tree.proofs.SpotTargets.{target_other, added_long, added_made, element_long, element_made}
+use Rattle.edit_tree.proofs.ModelNodes.{child_is}
+use Rattle.edit_tree.proofs.ModelTargets.{target_other, added_long, added_made, element_long, element_made}
 use Rattle.edit_tree.proofs.KeyFronts.{asserted_new, asserted_old}
 use Rattle.edit_tree.proofs.MoreAssertions.{first_kind, allowed, IsClear, clash_last, short_last}
 use Rattle.edit_tree.proofs.MoreMembers.{is_element, is_headed}
 use Rattle.edit_tree.proofs.Trees.{Grows, grows_set, Gains}
-use Rattle.edit_document.proofs.AssertedSpots.{IsIndexed, noted, shape_of_kind, Stands, stands_again}
+use Rattle.edit_document.proofs.AssertedModels.{IsIndexed, noted, shape_of_kind, Stands, stands_again}
 use Rattle.edit_document.proofs.NewAssertions.{Shows, stands_gained, gained_grows, gained_last}
 
 -- the spots stand for one assertion more, whose place has a number; or it clashes
-pub data Makes (made : List Assertion) (written : List Placed) (spots : List ModelNode) (a : Assertion)
+pub data Makes (made : List Assertion) (written : List Placed) (models : List ModelNode) (a : Assertion)
     (more : List Placed) (r : Option (List ModelNode × ℕ)) : Type 0 where
   makes : (now : List ModelNode) (j : ℕ) → r ≡ Some (now, j) → Stands (made ++ a ∷ []) (written ++ more) now
-      → StandsAt now j a.place → Grows spots now → Makes made written spots a more r
-  fails : r ≡ None → (IsClear (made ++ a ∷ []) → ⊥) → Makes made written spots a more r
+      → StandsAt now j a.place → Grows models now → Makes made written models a more r
+  fails : r ≡ None → (IsClear (made ++ a ∷ []) → ⊥) → Makes made written models a more r
 
-pub makes_along : {made : List Assertion} {written : List Placed} {spots : List ModelNode} {a : Assertion}
-    {more : List Placed} {r q : Option (List ModelNode × ℕ)} → q ≡ r → Makes made written spots a more r
-    → Makes made written spots a more q
+pub makes_along : {made : List Assertion} {written : List Placed} {models : List ModelNode} {a : Assertion}
+    {more : List Placed} {r q : Option (List ModelNode × ℕ)} → q ≡ r → Makes made written models a more r
+    → Makes made written models a more q
 makes_along e (makes now j h s p g) = makes now j (e ∙ h) s p g
 makes_along e (fails h c) = fails (e ∙ h) c
 
 -- ---- a place that is taken again
 
-again_is : (spots : List ModelNode) (j : ℕ) (s : ModelNode) (taken : DefinedBy) (b : Bool)
-    → slice_get spots j ≡ Some s
-    → can_extend s.taken taken ≡ b → node_extended spots j taken
-    ≡ cond b (Some (slice_set spots j (with_definition s taken))) None
+again_is : (models : List ModelNode) (j : ℕ) (s : ModelNode) (taken : DefinedBy) (b : Bool)
+    → slice_get models j ≡ Some s
+    → can_extend s.taken taken ≡ b → node_extended models j taken
+    ≡ cond b (Some (slice_set models j (with_definition s taken))) None
 unfolding node_extended
-again_is spots j s taken b e h = rw (e, h) refl
+again_is models j s taken b e h = rw (e, h) refl
 
-pub again_makes : (made : List Assertion) (written : List Placed) (spots : List ModelNode) (j : ℕ) (s : ModelNode)
-    (a : Assertion) → Stands made written spots → slice_get spots j ≡ Some s → a.place ≡ s.place
+pub again_makes : (made : List Assertion) (written : List Placed) (models : List ModelNode) (j : ℕ) (s : ModelNode)
+    (a : Assertion) → Stands made written models → slice_get models j ≡ Some s → a.place ≡ s.place
     → (s.place ≡ [] → ⊥) → is_element a.kind ≡ false
-    → Makes made written spots a [] (with_index j (node_extended spots j (defined_by a.kind)))
-again_makes made written spots j s a st here place inner plain = go (can_extend s.taken (defined_by a.kind)) refl
+    → Makes made written models a [] (with_index j (node_extended models j (defined_by a.kind)))
+again_makes made written models j s a st here place inner plain = go (can_extend s.taken (defined_by a.kind)) refl
   where
     go : (b : Bool) → can_extend s.taken (defined_by a.kind) ≡ b
-        → Makes made written spots a [] (with_index j (node_extended spots j (defined_by a.kind)))
+        → Makes made written models a [] (with_index j (node_extended models j (defined_by a.kind)))
     go true fits =
-        let now = slice_set spots j (with_definition s (defined_by a.kind)) in
-        makes now j (ap (with_index j) (again_is spots j s (defined_by a.kind) true here fits))
+        let now = slice_set models j (with_definition s (defined_by a.kind)) in
+        makes now j (ap (with_index j) (again_is models j s (defined_by a.kind) true here fits))
         (subst (λ (w : List Placed). Stands (made ++ a ∷ []) w now) (sym (append-nil written))
-        (stands_again made written spots j s a st here place inner fits plain))
-        (grows_set spots j s (with_definition s (defined_by a.kind)) here refl j a.place (s, here, sym place))
-        (grows_set spots j s (with_definition s (defined_by a.kind)) here refl)
+        (stands_again made written models j s a st here place inner fits plain))
+        (grows_set models j s (with_definition s (defined_by a.kind)) here refl j a.place (s, here, sym place))
+        (grows_set models j s (with_definition s (defined_by a.kind)) here refl)
     go false stops =
-        fails (ap (with_index j) (again_is spots j s (defined_by a.kind) false here stops))
+        fails (ap (with_index j) (again_is models j s (defined_by a.kind) false here stops))
         (λ clear.
         let fits : allowed made a.place a.kind ≡ true = clash_last made a clear in
         let says : allowed made a.place a.kind ≡ can_extend s.taken (defined_by a.kind) =
@@ -133,38 +133,38 @@ too_long made a p x place le clear =
     let more : length (at p x) ≡ length p + 1 = length_push p x in
     omega arith
 
-pub added_makes : (made : List Assertion) (written : List Placed) (spots : List ModelNode) (t : ℕ) (s : ModelNode)
-    (name : List ℕ) (a : Assertion) (span : Option Span) → Stands made written spots
-    → slice_get spots t ≡ Some s → below s (key name) ≡ None → a.place ≡ at s.place (key name)
+pub added_makes : (made : List Assertion) (written : List Placed) (models : List ModelNode) (t : ℕ) (s : ModelNode)
+    (name : List ℕ) (a : Assertion) (span : Option Span) → Stands made written models
+    → slice_get models t ≡ Some s → below s (key name) ≡ None → a.place ≡ at s.place (key name)
     → is_element a.kind ≡ false
-    → Makes made written spots a (noted a.place span)
-    (member_added spots t name (shape_of_kind a.kind) (defined_by a.kind) span)
-added_makes made written spots t s name a span st here none place plain =
+    → Makes made written models a (noted a.place span)
+    (member_added models t name (shape_of_kind a.kind) (defined_by a.kind) span)
+added_makes made written models t s name a span st here none place plain =
     elim (cases_lt (length s.place) 80) [
       | inl few ↦
-          let s2 = with_member s name (length spots) in
-          let gains = member_gains s name (length spots) none in
-          let shows = member_shows s name (length spots) in
+          let s2 = with_member s name (length models) in
+          let gains = member_gains s name (length models) none in
+          let shows = member_shows s name (length models) in
           let indexed : (i : ℕ) → key name ≡ index i → IsIndexed made s.place i = λ i e. absurd cc in
           let unindexed : (k : Kind) → first_kind made s.place ≡ Some k → is_headed k ≡ true
           → is_element a.kind ≡ false = λ k f e. plain in
           let last = model_node_at a.place (shape_of_kind a.kind) (defined_by a.kind) span in
-          let is : member_added spots t name (shape_of_kind a.kind) (defined_by a.kind) span
-          ≡ Some (slice_set spots t s2 ++ last ∷ [], length spots) =
-          added_made spots t name (shape_of_kind a.kind) (defined_by a.kind) span s here few
+          let is : member_added models t name (shape_of_kind a.kind) (defined_by a.kind) span
+          ≡ Some (slice_set models t s2 ++ last ∷ [], length models) =
+          added_made models t name (shape_of_kind a.kind) (defined_by a.kind) span s here few
           ∙ ap (λ (p : Place). Some (
-            slice_set spots t (with_member s name (length spots)) ++ model_node_at p (shape_of_kind a.kind)
+            slice_set models t (with_member s name (length models)) ++ model_node_at p (shape_of_kind a.kind)
                 (defined_by a.kind) span ∷ [],
-            length spots,
+            length models,
           )) (sym place) in
-          makes (slice_set spots t s2 ++ last ∷ []) (length spots) is
-          (stands_gained made written spots t s s2
+          makes (slice_set models t s2 ++ last ∷ []) (length models) is
+          (stands_gained made written models t s s2
           (key name) a span st here gains shows place unindexed indexed
           few)
-          (gained_last made written spots t s s2 (key name) a span st here gains shows place unindexed indexed
-          few) (gained_grows made written spots t s s2
+          (gained_last made written models t s s2 (key name) a span st here gains shows place unindexed indexed
+          few) (gained_grows made written models t s s2
           (key name) a span st here gains shows place unindexed indexed few)
-      | inr many ↦ fails (added_long spots t name (shape_of_kind a.kind) (defined_by a.kind) span s here many)
+      | inr many ↦ fails (added_long models t name (shape_of_kind a.kind) (defined_by a.kind) span s here many)
           (too_long made a s.place (key name) place many)
     ]
 
@@ -181,47 +181,47 @@ no_value_again Array e = cc
 no_value_again Element e = cc
 
 -- a span of a place that is taken again
-more_none : (made : List Assertion) (written : List Placed) (spots : List ModelNode) (a : Assertion)
-    (span : Option Span) (r : Option (List ModelNode × ℕ)) (j : ℕ) (s : ModelNode) → Stands made written spots
-    → slice_get spots j ≡ Some s → a.place ≡ s.place → (s.place ≡ [] → ⊥) → IsSpanFor a.kind span
-    → Makes made written spots a [] r → Makes made written spots a (noted a.place span) r
-more_none made written spots a span r j s st here place inner (inl e) m =
-    subst (λ (o : Option Span). Makes made written spots a (noted a.place o) r) (sym e) m
-more_none made written spots a span r j s st here place inner (inr e) (fails h c) = fails h c
-more_none made written spots a span r j s st here place inner (inr e) (makes now k h stands p g) =
+more_none : (made : List Assertion) (written : List Placed) (models : List ModelNode) (a : Assertion)
+    (span : Option Span) (r : Option (List ModelNode × ℕ)) (j : ℕ) (s : ModelNode) → Stands made written models
+    → slice_get models j ≡ Some s → a.place ≡ s.place → (s.place ≡ [] → ⊥) → IsSpanFor a.kind span
+    → Makes made written models a [] r → Makes made written models a (noted a.place span) r
+more_none made written models a span r j s st here place inner (inl e) m =
+    subst (λ (o : Option Span). Makes made written models a (noted a.place o) r) (sym e) m
+more_none made written models a span r j s st here place inner (inr e) (fails h c) = fails h c
+more_none made written models a span r j s st here place inner (inr e) (makes now k h stands p g) =
     let fits : allowed made a.place a.kind ≡ true = clash_last made a stands.clear in
     let says : allowed made a.place a.kind ≡ can_extend s.taken (defined_by a.kind) =
     ap (λ (q : Place). allowed made q a.kind) place ∙ (st.tells j s here).joined inner a.kind in
     absurd (no_value_again s.taken (ap (can_extend s.taken) (sym e) ∙ sym says ∙ fits))
 
 -- a member is asserted, by any kind but that of a header that goes on below it
-pub member_makes : (made : List Assertion) (written : List Placed) (spots : List ModelNode) (t : ℕ) (s : ModelNode)
-    (name : List ℕ) (a : Assertion) (span : Option Span) → Stands made written spots
-    → slice_get spots t ≡ Some s → a.place ≡ at s.place (key name)
+pub member_makes : (made : List Assertion) (written : List Placed) (models : List ModelNode) (t : ℕ) (s : ModelNode)
+    (name : List ℕ) (a : Assertion) (span : Option Span) → Stands made written models
+    → slice_get models t ≡ Some s → a.place ≡ at s.place (key name)
     → is_element a.kind ≡ false → (defined_by a.kind ≡ Super → ⊥) → IsSpanFor a.kind span
-    → Makes made written spots a (noted a.place span)
-    (member_defined spots t name (shape_of_kind a.kind) (defined_by a.kind) span)
-member_makes made written spots t s name a span st here place plain kind spanned =
+    → Makes made written models a (noted a.place span)
+    (member_defined models t name (shape_of_kind a.kind) (defined_by a.kind) span)
+member_makes made written models t s name a span st here place plain kind spanned =
     go (below s (key name)) refl
   where
     go : (o : Option ℕ) → below s (key name) ≡ o
-        → Makes made written spots a (noted a.place span)
-        (member_defined spots t name (shape_of_kind a.kind) (defined_by a.kind) span)
+        → Makes made written models a (noted a.place span)
+        (member_defined models t name (shape_of_kind a.kind) (defined_by a.kind) span)
     go None e =
-        makes_along (asserted_new spots t name (shape_of_kind a.kind) (defined_by a.kind) span
-        (child_is spots t s name here ∙ e))
-        (added_makes made written spots t s name a span st here e place plain)
+        makes_along (asserted_new models t name (shape_of_kind a.kind) (defined_by a.kind) span
+        (child_is models t s name here ∙ e))
+        (added_makes made written models t s name a span st here e place plain)
     go (Some j) e =
         let d = st.tree.down t j s (key name) here e in
         let same : a.place ≡ d.0.place = place ∙ sym d.2 in
         let inner : d.0.place ≡ [] → ⊥ = λ root. not_root s.place (key name) (sym d.2 ∙ root) in
-        let target : target_of spots j (defined_by a.kind) ≡ j = target_other spots j (defined_by a.kind) kind in
+        let target : target_of models j (defined_by a.kind) ≡ j = target_other models j (defined_by a.kind) kind in
         makes_along
-        (asserted_old spots t j name (shape_of_kind a.kind) (defined_by a.kind) span
-        (child_is spots t s name here ∙ e) ∙
-        ap (λ (n : ℕ). with_index n (node_extended spots n (defined_by a.kind))) target)
-        (more_none made written spots a span (with_index j (node_extended spots j (defined_by a.kind))) j d.0 st d.1
-        same inner spanned (again_makes made written spots j d.0 a st d.1 same inner plain))
+        (asserted_old models t j name (shape_of_kind a.kind) (defined_by a.kind) span
+        (child_is models t s name here ∙ e) ∙
+        ap (λ (n : ℕ). with_index n (node_extended models n (defined_by a.kind))) target)
+        (more_none made written models a span (with_index j (node_extended models j (defined_by a.kind))) j d.0 st d.1
+        same inner spanned (again_makes made written models j d.0 a st d.1 same inner plain))
 
 -- ---- an element more
 
@@ -260,35 +260,35 @@ element_shows s number =
           (let n : length s.elements + 1 ≡ suc (length s.elements) = omega arith in n);
     }
 
-pub element_makes : (made : List Assertion) (written : List Placed) (spots : List ModelNode) (t : ℕ) (s : ModelNode)
-    (a : Assertion) (span : Option Span) → Stands made written spots → slice_get spots t ≡ Some s
+pub element_makes : (made : List Assertion) (written : List Placed) (models : List ModelNode) (t : ℕ) (s : ModelNode)
+    (a : Assertion) (span : Option Span) → Stands made written models → slice_get models t ≡ Some s
     → a.place ≡ at s.place (index (length s.elements))
     → ((k : Kind) → first_kind made s.place ≡ Some k → is_headed k ≡ true → is_element a.kind ≡ true)
     → IsIndexed made s.place (length s.elements)
-    → Makes made written spots a (noted a.place span)
-    (element_added spots t (shape_of_kind a.kind) (defined_by a.kind) span)
-element_makes made written spots t s a span st here place plain lists = elim (cases_lt (length s.place) 80) [
+    → Makes made written models a (noted a.place span)
+    (element_added models t (shape_of_kind a.kind) (defined_by a.kind) span)
+element_makes made written models t s a span st here place plain lists = elim (cases_lt (length s.place) 80) [
   | inl few ↦
       let x = index (length s.elements) in
-      let s2 = with_element s (length spots) in
-      let gains = element_gains s (length spots) in
-      let shows = element_shows s (length spots) in
+      let s2 = with_element s (length models) in
+      let gains = element_gains s (length models) in
+      let shows = element_shows s (length models) in
       let indexed : (i : ℕ) → index (length s.elements) ≡ index i
       → IsIndexed made s.place i = λ i e. subst (IsIndexed made s.place)
       (let same : length s.elements ≡ i = cc in same) lists in
       let last = model_node_at a.place (shape_of_kind a.kind) (defined_by a.kind) span in
-      let is : element_added spots t (shape_of_kind a.kind) (defined_by a.kind) span
-      ≡ Some (slice_set spots t s2 ++ last ∷ [], length spots) =
-      element_made spots t (shape_of_kind a.kind) (defined_by a.kind) span s here few
+      let is : element_added models t (shape_of_kind a.kind) (defined_by a.kind) span
+      ≡ Some (slice_set models t s2 ++ last ∷ [], length models) =
+      element_made models t (shape_of_kind a.kind) (defined_by a.kind) span s here few
       ∙ ap (λ (p : Place). Some (
-        slice_set spots t (with_element s (length spots)) ++ model_node_at p (shape_of_kind a.kind)
+        slice_set models t (with_element s (length models)) ++ model_node_at p (shape_of_kind a.kind)
             (defined_by a.kind) span ∷ [],
-        length spots,
+        length models,
       )) (sym place) in
-      makes (slice_set spots t s2 ++ last ∷ []) (length spots) is
-      (stands_gained made written spots t s s2 x a span st here gains shows place plain indexed few)
-      (gained_last made written spots t s s2 x a span st here gains shows place plain indexed few)
-      (gained_grows made written spots t s s2 x a span st here gains shows place plain indexed few)
-  | inr many ↦ fails (element_long spots t (shape_of_kind a.kind) (defined_by a.kind) span s here many)
+      makes (slice_set models t s2 ++ last ∷ []) (length models) is
+      (stands_gained made written models t s s2 x a span st here gains shows place plain indexed few)
+      (gained_last made written models t s s2 x a span st here gains shows place plain indexed few)
+      (gained_grows made written models t s s2 x a span st here gains shows place plain indexed few)
+  | inr many ↦ fails (element_long models t (shape_of_kind a.kind) (defined_by a.kind) span s here many)
       (too_long made a s.place (index (length s.elements)) place many)
 ]

@@ -19,8 +19,8 @@ use Rattle.edit_tree.specs.Nodes.{ModelNode, view_of_shape, model_node_view, sha
 use Rattle.edit_document.specs.Items.{step_view, place_view, viewed, node_place, node_view, key_names, names_in, count_in, IsNodeIndex, Shows}
 use Rattle.edit_tree.proofs.SamePlace.{last_same, not_root}
 use Rattle.edit_syntax.proofs.ListElements.{slice_get_same}
-use Rattle.edit_tree.proofs.SpotNodes.{below_node}
-use Rattle.edit_document.proofs.Views.{Opened, view_of_spot, node_none, names_of_node, Found, tree_spot, place_spot, view_spot}
+use Rattle.edit_tree.proofs.ModelNodes.{below_node}
+use Rattle.edit_document.proofs.Views.{Opened, view_of_model, node_none, names_of_node, Found, tree_model, place_model, view_model}
 
 -- ---- members
 
@@ -54,79 +54,79 @@ IsDateTime x = (s : Span) × (x ≡ content.DateTime s)
 abbrev pub IsScalar : Content → Type 0
 IsScalar x = IsText x ⊎ (IsTruth x ⊎ (IsInteger x ⊎ (IsFloat x ⊎ IsDateTime x)))
 
-names_of_content : (shown : DocumentViews) (nodes : List Node) (spots : List ModelNode) (n : ℕ) (node : Node) (x : Content)
-    → Found shown nodes spots n node → node.content ≡ x → names_in (node_view shown n)
+names_of_content : (shown : DocumentViews) (nodes : List Node) (models : List ModelNode) (n : ℕ) (node : Node) (x : Content)
+    → Found shown nodes models n node → node.content ≡ x → names_in (node_view shown n)
     ≡ names_in (view_of_shape (shape_of shown.bytes x) (names_of_node shown.bytes node)
     (length (elements_of node.members)))
-names_of_content shown nodes spots n node x f is = ap names_in f.view ∙
+names_of_content shown nodes models n node x f is = ap names_in f.view ∙
     ap (λ (y : Content). names_in (view_of_shape (shape_of shown.bytes y) (names_of_node shown.bytes node)
     (length (elements_of node.members)))) is
 
 -- what shows no names, and what does
-pub names_none : (shown : DocumentViews) (nodes : List Node) (spots : List ModelNode) (n : ℕ) (node : Node)
-    → Found shown nodes spots n node → IsText node.content
+pub names_none : (shown : DocumentViews) (nodes : List Node) (models : List ModelNode) (n : ℕ) (node : Node)
+    → Found shown nodes models n node → IsText node.content
     ⊎ (IsTruth node.content
     ⊎ (IsInteger node.content
     ⊎ (IsFloat node.content
     ⊎ (IsDateTime node.content ⊎ ((node.content ≡ content.Array) ⊎ (node.content ≡ content.Tables))))))
     → names_in (node_view shown n) ≡ []
-names_none shown nodes spots n node f (inl t) = names_of_content shown nodes spots n node
+names_none shown nodes models n node f (inl t) = names_of_content shown nodes models n node
     (content.Text t.0) f t.1
-names_none shown nodes spots n node f (inr (inl t)) = names_of_content shown nodes spots n node
+names_none shown nodes models n node f (inr (inl t)) = names_of_content shown nodes models n node
     (content.Truth t.0) f t.1
-names_none shown nodes spots n node f (inr (inr (inl t))) =
-    names_of_content shown nodes spots n node (content.Integer t.0) f t.1
-names_none shown nodes spots n node f (inr (inr (inr (inl t)))) =
-    names_of_content shown nodes spots n node (content.Float t.0) f t.1
-names_none shown nodes spots n node f (inr (inr (inr (inr (inl t))))) =
-    names_of_content shown nodes spots n node (content.DateTime t.0) f t.1
-names_none shown nodes spots n node f (inr (inr (inr (inr (inr (inl t)))))) =
-    names_of_content shown nodes spots n node content.Array f t
-names_none shown nodes spots n node f (inr (inr (inr (inr (inr (inr t)))))) =
-    names_of_content shown nodes spots n node content.Tables f t
+names_none shown nodes models n node f (inr (inr (inl t))) =
+    names_of_content shown nodes models n node (content.Integer t.0) f t.1
+names_none shown nodes models n node f (inr (inr (inr (inl t)))) =
+    names_of_content shown nodes models n node (content.Float t.0) f t.1
+names_none shown nodes models n node f (inr (inr (inr (inr (inl t))))) =
+    names_of_content shown nodes models n node (content.DateTime t.0) f t.1
+names_none shown nodes models n node f (inr (inr (inr (inr (inr (inl t)))))) =
+    names_of_content shown nodes models n node content.Array f t
+names_none shown nodes models n node f (inr (inr (inr (inr (inr (inr t)))))) =
+    names_of_content shown nodes models n node content.Tables f t
 
-pub names_tabular : (shown : DocumentViews) (nodes : List Node) (spots : List ModelNode) (n : ℕ) (node : Node)
-    → Found shown nodes spots n node → (node.content ≡ content.Inline) ⊎ (node.content ≡ content.Table)
+pub names_tabular : (shown : DocumentViews) (nodes : List Node) (models : List ModelNode) (n : ℕ) (node : Node)
+    → Found shown nodes models n node → (node.content ≡ content.Inline) ⊎ (node.content ≡ content.Table)
     → names_in (node_view shown n) ≡ names_of_node shown.bytes node
-names_tabular shown nodes spots n node f (inl t) =
-    names_of_content shown nodes spots n node content.Inline f t ∙ names_keys (names_of_node shown.bytes node)
-names_tabular shown nodes spots n node f (inr t) =
-    names_of_content shown nodes spots n node content.Table f t ∙ names_keys (names_of_node shown.bytes node)
+names_tabular shown nodes models n node f (inl t) =
+    names_of_content shown nodes models n node content.Inline f t ∙ names_keys (names_of_node shown.bytes node)
+names_tabular shown nodes models n node f (inr t) =
+    names_of_content shown nodes models n node content.Table f t ∙ names_keys (names_of_node shown.bytes node)
 
 -- a node of this content has so many parts
-pub count_shown : (shown : DocumentViews) (nodes : List Node) (spots : List ModelNode) (n : ℕ) (node : Node) (x : Content)
-    → Found shown nodes spots n node → node.content ≡ x → count_in (node_view shown n)
+pub count_shown : (shown : DocumentViews) (nodes : List Node) (models : List ModelNode) (n : ℕ) (node : Node) (x : Content)
+    → Found shown nodes models n node → node.content ≡ x → count_in (node_view shown n)
     ≡ count_in (view_of_shape (shape_of shown.bytes x) (names_of_node shown.bytes node)
     (length (elements_of node.members)))
-count_shown shown nodes spots n node x f is = ap count_in f.view ∙
+count_shown shown nodes models n node x f is = ap count_in f.view ∙
     ap (λ (y : Content). count_in (view_of_shape (shape_of shown.bytes y) (names_of_node shown.bytes node)
     (length (elements_of node.members)))) is
 
-pub count_scalar : (shown : DocumentViews) (nodes : List Node) (spots : List ModelNode) (n : ℕ) (node : Node)
-    → Found shown nodes spots n node → IsScalar node.content → count_in (node_view shown n) ≡ 0
-count_scalar shown nodes spots n node f (inl t) = count_shown shown nodes spots n node
+pub count_scalar : (shown : DocumentViews) (nodes : List Node) (models : List ModelNode) (n : ℕ) (node : Node)
+    → Found shown nodes models n node → IsScalar node.content → count_in (node_view shown n) ≡ 0
+count_scalar shown nodes models n node f (inl t) = count_shown shown nodes models n node
     (content.Text t.0) f t.1
-count_scalar shown nodes spots n node f (inr (inl t)) = count_shown shown nodes spots n node
+count_scalar shown nodes models n node f (inr (inl t)) = count_shown shown nodes models n node
     (content.Truth t.0) f t.1
-count_scalar shown nodes spots n node f (inr (inr (inl t))) =
-    count_shown shown nodes spots n node (content.Integer t.0) f t.1
-count_scalar shown nodes spots n node f (inr (inr (inr (inl t)))) =
-    count_shown shown nodes spots n node (content.Float t.0) f t.1
-count_scalar shown nodes spots n node f (inr (inr (inr (inr t)))) =
-    count_shown shown nodes spots n node (content.DateTime t.0) f t.1
+count_scalar shown nodes models n node f (inr (inr (inl t))) =
+    count_shown shown nodes models n node (content.Integer t.0) f t.1
+count_scalar shown nodes models n node f (inr (inr (inr (inl t)))) =
+    count_shown shown nodes models n node (content.Float t.0) f t.1
+count_scalar shown nodes models n node f (inr (inr (inr (inr t)))) =
+    count_shown shown nodes models n node (content.DateTime t.0) f t.1
 
-pub count_elements : (shown : DocumentViews) (nodes : List Node) (spots : List ModelNode) (n : ℕ) (node : Node)
-    → Found shown nodes spots n node → (node.content ≡ content.Array) ⊎ (node.content ≡ content.Tables)
+pub count_elements : (shown : DocumentViews) (nodes : List Node) (models : List ModelNode) (n : ℕ) (node : Node)
+    → Found shown nodes models n node → (node.content ≡ content.Array) ⊎ (node.content ≡ content.Tables)
     → count_in (node_view shown n) ≡ length (elements_of node.members)
-count_elements shown nodes spots n node f (inl t) = count_shown shown nodes spots n node content.Array f t
-count_elements shown nodes spots n node f (inr t) = count_shown shown nodes spots n node content.Tables f t
+count_elements shown nodes models n node f (inl t) = count_shown shown nodes models n node content.Array f t
+count_elements shown nodes models n node f (inr t) = count_shown shown nodes models n node content.Tables f t
 
-pub count_tabular : (shown : DocumentViews) (nodes : List Node) (spots : List ModelNode) (n : ℕ) (node : Node)
-    → Found shown nodes spots n node → (node.content ≡ content.Inline) ⊎ (node.content ≡ content.Table)
+pub count_tabular : (shown : DocumentViews) (nodes : List Node) (models : List ModelNode) (n : ℕ) (node : Node)
+    → Found shown nodes models n node → (node.content ≡ content.Inline) ⊎ (node.content ≡ content.Table)
     → count_in (node_view shown n) ≡ length (entries_of shown.bytes node.members)
-count_tabular shown nodes spots n node f (inl t) = count_shown shown nodes spots n node content.Inline f t ∙
+count_tabular shown nodes models n node f (inl t) = count_shown shown nodes models n node content.Inline f t ∙
     count_members shown.bytes node
-count_tabular shown nodes spots n node f (inr t) = count_shown shown nodes spots n node content.Table f t ∙
+count_tabular shown nodes models n node f (inr t) = count_shown shown nodes models n node content.Table f t ∙
     count_members shown.bytes node
 
 -- what a node shows
@@ -134,10 +134,10 @@ abbrev pub shows_content : List ℕ → Node → Content → Datum → Type 0
 shows_content text node x s =
     Shows (view_of_shape (shape_of text x) (names_of_node text node) (length (elements_of node.members))) s
 
-pub shows : (shown : DocumentViews) (nodes : List Node) (spots : List ModelNode) (n : ℕ) (node : Node) (x : Content)
-    (s : Datum) → Found shown nodes spots n node → node.content ≡ x → shows_content shown.bytes node x s
+pub shows : (shown : DocumentViews) (nodes : List Node) (models : List ModelNode) (n : ℕ) (node : Node) (x : Content)
+    (s : Datum) → Found shown nodes models n node → node.content ≡ x → shows_content shown.bytes node x s
     → Shows (node_view shown n) s
-shows shown nodes spots n node x s f is h = subst (λ (v : View). Shows v s) (sym f.view)
+shows shown nodes models n node x s f is h = subst (λ (v : View). Shows v s) (sym f.view)
     (subst (λ (y : Content). shows_content shown.bytes node y s) (sym is) h)
 
 -- what a slice gives at an index
@@ -148,18 +148,18 @@ got xs i Q None h k = sym (slice_get_past xs i h)
 got xs i Q (Some x) h k = sym (slice_get_read xs (length xs) i x.now refl h.0 k)
 
 -- nothing stands one step below a node that has no such part
-absent : (spots : List ModelNode) (tree : IsTree spots) (n : ℕ) (s : ModelNode) (x : Step)
-    → slice_get spots n ≡ Some s
-    → below s x ≡ None → (i : ℕ) (t : ModelNode) → slice_get spots i ≡ Some t → t.place ≡ at s.place x → ⊥
-absent spots tree n s x stands none i t g p =
+absent : (models : List ModelNode) (tree : IsTree models) (n : ℕ) (s : ModelNode) (x : Step)
+    → slice_get models n ≡ Some s
+    → below s x ≡ None → (i : ℕ) (t : ModelNode) → slice_get models i ≡ Some t → t.place ≡ at s.place x → ⊥
+absent models tree n s x stands none i t g p =
     elim (tree.up i t g) [
       | inl root ↦ not_root s.place x (sym p ∙ root)
       | inr m ↦
           let same = last_same m.upper.place s.place m.step x (sym m.place_is ∙ p) in
           let number : m.above ≡ n = tree.unique m.above n m.upper s m.stands stands same.0 in
-          let spot : m.upper ≡ s = slice_get_same spots n m.upper s (ap (slice_get spots) (sym number) ∙
+          let model : m.upper ≡ s = slice_get_same models n m.upper s (ap (slice_get models) (sym number) ∙
           m.stands) stands in
-          let some : below s x ≡ Some i = ap (λ (u : ModelNode). below u x) (sym spot) ∙
+          let some : below s x ≡ Some i = ap (λ (u : ModelNode). below u x) (sym model) ∙
           ap (below m.upper) (sym same.1) ∙ m.listed in
           let clash : None ≡ Some i = sym none ∙ some in
           absurd cc
@@ -167,32 +167,32 @@ absent spots tree n s x stands none i t g p =
 
 -- the number of what stands one step below a node
 pub part_here : (shown : DocumentViews) (nodes : List Node) (n : ℕ) (node : Node) (x : Step) (r : Option ℕ)
-    → (opens : Opened shown nodes) → (f : Found shown nodes opens.spots n node) → r ≡ below f.spot x
+    → (opens : Opened shown nodes) → (f : Found shown nodes opens.models n node) → r ≡ below f.model x
     → IsNodeIndex shown (at (node_place shown n) x) r
 part_here shown nodes n node x None opens f e = rw (f.place, opens.nodes_are)
-    (node_none opens.spots (at f.spot.place x) (absent opens.spots opens.tree n f.spot x f.stands (sym e)))
+    (node_none opens.models (at f.model.place x) (absent opens.models opens.tree n f.model x f.stands (sym e)))
 part_here shown nodes n node x (Some m) opens f e =
-    let s = opens.tree.down n m f.spot x f.stands (sym e) in
+    let s = opens.tree.down n m f.model x f.stands (sym e) in
     let place : s.0.place ≡ at (node_place shown n) x = s.2 ∙ ap (λ (p : Place). at p x) (sym f.place) in
-    let tree = tree_spot shown opens.spots m s.0 opens.nodes_are opens.tree s.1 in
-    let view = view_spot shown opens.spots m s.0 opens.nodes_are opens.tree s.1 in
-    let lt = slice_get_within opens.spots m s.0 s.1 in
-    let l : length shown.nodes ≡ length opens.spots = ap length opens.nodes_are ∙
-    length-map opens.spots model_node_view in (
+    let tree = tree_model shown opens.models m s.0 opens.nodes_are opens.tree s.1 in
+    let view = view_model shown opens.models m s.0 opens.nodes_are opens.tree s.1 in
+    let lt = slice_get_within opens.models m s.0 s.1 in
+    let l : length shown.nodes ≡ length opens.models = ap length opens.nodes_are ∙
+    length-map opens.models model_node_view in (
       ap (tree_of shown) (sym place) ∙ tree ∙ ap (λ (v : View). Some v) (sym view),
-      place_spot shown opens.spots m s.0 opens.nodes_are s.1 ∙ place,
+      place_model shown opens.models m s.0 opens.nodes_are s.1 ∙ place,
       omega arith,
     )
 
 pub member_here : (shown : DocumentViews) (nodes : List Node) (n : ℕ) (node : Node) (name : List ℕ) (r : Option ℕ)
-    → (opens : Opened shown nodes) → Found shown nodes opens.spots n node
+    → (opens : Opened shown nodes) → Found shown nodes opens.models n node
     → r ≡ number_in (entries_of shown.bytes node.members) name
     → IsNodeIndex shown (at (node_place shown n) (key name)) r
 member_here shown nodes n node name r opens f e = part_here shown nodes n node (key name) r opens f
-    (e ∙ sym (below_node node f.spot name f.keeps))
+    (e ∙ sym (below_node node f.model name f.keeps))
 
 pub element_here : (shown : DocumentViews) (nodes : List Node) (n : ℕ) (node : Node) (i : ℕ) (r : Option ℕ)
-    → (opens : Opened shown nodes) → Found shown nodes opens.spots n node
+    → (opens : Opened shown nodes) → Found shown nodes opens.models n node
     → r ≡ slice_get (elements_of node.members) i
     → IsNodeIndex shown (at (node_place shown n) (index i)) r
 element_here shown nodes n node i r opens f e = part_here shown nodes n node (index i) r opens f
@@ -200,7 +200,7 @@ element_here shown nodes n node i r opens f e = part_here shown nodes n node (in
 
 -- a node stands at its place
 pub node_stands : (shown : DocumentViews) (nodes : List Node) (n : ℕ) (node : Node) (opens : Opened shown nodes)
-    → Found shown nodes opens.spots n node → tree_of shown (node_place shown n)
+    → Found shown nodes opens.models n node → tree_of shown (node_place shown n)
     ≡ Some (node_view shown n)
 node_stands shown nodes n node opens f = ap (tree_of shown) f.place ∙ f.here ∙
     ap (λ (v : View). Some v) (sym (ap viewed (ap (tree_of shown) f.place ∙ f.here)))
@@ -209,12 +209,12 @@ node_stands shown nodes n node opens f = ap (tree_of shown) f.place ∙ f.here �
 step_none : (shown : DocumentViews) (nodes : List Node) (place : Place) (x : Step) → Opened shown nodes
     → tree_of shown place ≡ None → tree_of shown (at place x) ≡ None
 step_none shown nodes place x opens none = rw opens.nodes_are
-    (node_none opens.spots (at place x) (λ j t g p. elim (opens.tree.up j t g) [
+    (node_none opens.models (at place x) (λ j t g p. elim (opens.tree.up j t g) [
       | inl root ↦ not_root place x (sym p ∙ root)
       | inr m ↦
           let same = last_same m.upper.place place m.step x (sym m.place_is ∙ p) in
-          let some = tree_spot shown opens.spots m.above m.upper opens.nodes_are opens.tree m.stands in
-          let no : None ≡ Some (view_of_spot m.upper) = sym none ∙ ap (tree_of shown) (sym same.0) ∙ some in
+          let some = tree_model shown opens.models m.above m.upper opens.nodes_are opens.tree m.stands in
+          let no : None ≡ Some (view_of_model m.upper) = sym none ∙ ap (tree_of shown) (sym same.0) ∙ some in
           absurd cc
     ]))
 
@@ -229,10 +229,10 @@ pub root_stands : (shown : DocumentViews) (nodes : List Node) → Opened shown n
     × (node_place shown 0 ≡ [])
 root_stands shown nodes opens =
     let r = opens.tree.root in
-    let l : length shown.nodes ≡ length opens.spots = ap length opens.nodes_are ∙
-    length-map opens.spots model_node_view in
-    let lt = slice_get_within opens.spots 0 r.0 r.1 in
-    (omega arith, place_spot shown opens.spots 0 r.0 opens.nodes_are r.1 ∙ r.2)
+    let l : length shown.nodes ≡ length opens.models = ap length opens.nodes_are ∙
+    length-map opens.models model_node_view in
+    let lt = slice_get_within opens.models 0 r.0 r.1 in
+    (omega arith, place_model shown opens.models 0 r.0 opens.nodes_are r.1 ∙ r.2)
 
 -- ---- the walk along a place
 

@@ -143,13 +143,13 @@ behind_three : (bytes : List ℕ) (m : ℕ) (s : List ℕ) → m < 128 → IsUtf
 behind_three bytes m s small u h = text_behind [] s m small
     (text_behind [] (m ∷ s) m small (text_behind h.0 (m ∷ (m ∷ s)) m small (subst IsUtf8 h.1 u)))
 
-taken : (bytes text rest word : List ℕ) → text ≡ word ++ rest → Ends bytes text
-    → take (length text - length rest) (suffix bytes (length text)) ≡ word
-taken bytes text rest word e ends =
-    let size : length text ≡ length word + length rest = ap length e ∙ length-append word rest in
-    let n : length text - length rest ≡ length word = omega arith in
+taken : (bytes text rest token_text : List ℕ) → text ≡ token_text ++ rest → Ends bytes text
+    → take (length text - length rest) (suffix bytes (length text)) ≡ token_text
+taken bytes text rest token_text e ends =
+    let size : length text ≡ length token_text + length rest = ap length e ∙ length-append token_text rest in
+    let n : length text - length rest ≡ length token_text = omega arith in
     ap (take (length text - length rest)) (suffix_is bytes text ends ∙ e) ∙
-    ap (λ (k : ℕ). take k (word ++ rest)) n ∙ take_length word rest
+    ap (λ (k : ℕ). take k (token_text ++ rest)) n ∙ take_length token_text rest
 
 multi_says : (bytes : List ℕ) (m : ℕ) (ps : List Piece) (rest : List ℕ) → m < 128 → AllByRecursion IsAny ps
     → multi_value m (pieces m ps (three m [])) ≡ Some (decoded_multi m ps)

@@ -16,7 +16,7 @@ use Rattle.edit_tree.proofs.TakenPairs.{together_is}
 use Rattle.edit_tree.proofs.MoreAssertions.{kind_stays, kind_new, kind_else, kind_back, first_kind, first_stays, first_is, allowed_else, allowed_here, allowed_none, clear_more}
 use Rattle.edit_tree.proofs.MoreMembers.{members_new, members_else, members_none, is_element, is_headed, elements_below, elements_stay, elements_grow, elements_else, elements_none}
 use Rattle.edit_tree.proofs.Trees.{Grows, Gains, grown, last_is, tree_gain, each_gain}
-use Rattle.edit_document.proofs.AssertedSpots.{IsIndexed, indexed_stays, noted, span_else, span_here, shape_of_kind, Tells, Stands, was_asserted, nothing_below_spot, nothing_under}
+use Rattle.edit_document.proofs.AssertedModels.{IsIndexed, indexed_stays, noted, span_else, span_here, shape_of_kind, Tells, Stands, was_asserted, nothing_below_model, nothing_under}
 
 abbrev pub is_index : Step → Bool
 is_index (key n) = false
@@ -40,14 +40,14 @@ counted : (made : List Assertion) (a : Assertion) (p : Place) (x : Step) → a.p
 counted made a p (key n) place e = elements_stay made a p e
 counted made a p (index i) place e = elements_grow made a p i e place
 
-module _ (made : List Assertion) (written : List Placed) (spots : List ModelNode) (t : ℕ) (s s2 : ModelNode) (x : Step)
-    (a : Assertion) (span : Option Span) (st : Stands made written spots) (here : slice_get spots t ≡ Some s)
-    (gains : Gains s s2 x (length spots)) (shows : Shows s s2 x)
+module _ (made : List Assertion) (written : List Placed) (models : List ModelNode) (t : ℕ) (s s2 : ModelNode) (x : Step)
+    (a : Assertion) (span : Option Span) (st : Stands made written models) (here : slice_get models t ≡ Some s)
+    (gains : Gains s s2 x (length models)) (shows : Shows s s2 x)
     (place : a.place ≡ at s.place x) (element : (k : Kind) → first_kind made s.place ≡ Some k
     → is_headed k ≡ true → is_element a.kind ≡ is_index x)
     (indexed : (i : ℕ) → x ≡ index i → IsIndexed made s.place i) (few : length s.place < 80) where
   nothing : kind_at made (at s.place x) ≡ None
-  nothing = nothing_below_spot made written spots t s x st here gains.absent
+  nothing = nothing_below_model made written models t s x st here gains.absent
 
   none : kind_at made a.place ≡ None
   none = ap (kind_at made) place ∙ nothing
@@ -55,7 +55,7 @@ module _ (made : List Assertion) (written : List Placed) (spots : List ModelNode
   inner : a.place ≡ [] → ⊥
   inner e = not_root s.place x (sym place ∙ e)
 
-  fresh : (i : ℕ) (u : ModelNode) → slice_get spots i ≡ Some u → u.place ≡ at s.place x → ⊥
+  fresh : (i : ℕ) (u : ModelNode) → slice_get models i ≡ Some u → u.place ≡ at s.place x → ⊥
   fresh i u e same =
       let k = st.tells i u e in
       let some = was_asserted k (λ root. not_root s.place x (sym same ∙ root)) in
@@ -96,7 +96,7 @@ module _ (made : List Assertion) (written : List Placed) (spots : List ModelNode
   tells_last : Tells (made ++ a ∷ []) (written ++ noted a.place span)
       (model_node_at a.place (shape_of_kind a.kind) (defined_by a.kind) span)
   tells_last =
-      let under = λ (y : Step). nothing_under made written spots a.place y st inner none in
+      let under = λ (y : Step). nothing_under made written models a.place y st inner none in
       record {
         kind = a.kind;
         first = first_is (made ++ a ∷ []) a.place inner ∙ kind_new made a a.place refl none;
@@ -117,9 +117,9 @@ module _ (made : List Assertion) (written : List Placed) (spots : List ModelNode
       unwritten (Some w) e = let k = st.spans a.place w e in
           absurd (let clash : None ≡ Some k.0 = sym none ∙ k.1 in cc)
 
-  tells_kept : (i : ℕ) (u : ModelNode) → (i ≡ t → ⊥) → slice_get spots i ≡ Some u
+  tells_further : (i : ℕ) (u : ModelNode) → (i ≡ t → ⊥) → slice_get models i ≡ Some u
       → Tells (made ++ a ∷ []) (written ++ noted a.place span) u
-  tells_kept i u ne g =
+  tells_further i u ne g =
       let k = st.tells i u g in
       let off : a.place ≡ u.place → ⊥ = λ e. fresh i u g (sym e ∙ place) in
       let under : (y : Step) → a.place ≡ at u.place y → ⊥ =
@@ -134,35 +134,35 @@ module _ (made : List Assertion) (written : List Placed) (spots : List ModelNode
         span = k.span ∙ sym (span_else written a.place u.place span off);
       }
 
-  pub gained_grows : Grows spots (slice_set spots t s2 ++ model_node_at a.place (shape_of_kind a.kind)
+  pub gained_grows : Grows models (slice_set models t s2 ++ model_node_at a.place (shape_of_kind a.kind)
       (defined_by a.kind) span ∷ [])
-  gained_grows = grown spots t s s2 (model_node_at a.place (shape_of_kind a.kind) (defined_by a.kind) span) x st.tree
+  gained_grows = grown models t s s2 (model_node_at a.place (shape_of_kind a.kind) (defined_by a.kind) span) x st.tree
       here gains fresh place bare
 
-  pub gained_last : StandsAt (slice_set spots t s2 ++ model_node_at a.place (shape_of_kind a.kind)
-      (defined_by a.kind) span ∷ []) (length spots) a.place
+  pub gained_last : StandsAt (slice_set models t s2 ++ model_node_at a.place (shape_of_kind a.kind)
+      (defined_by a.kind) span ∷ []) (length models) a.place
   gained_last = (
     model_node_at a.place (shape_of_kind a.kind) (defined_by a.kind) span,
-    last_is spots t s s2 (model_node_at a.place (shape_of_kind a.kind) (defined_by a.kind) span) x st.tree here gains
+    last_is models t s s2 (model_node_at a.place (shape_of_kind a.kind) (defined_by a.kind) span) x st.tree here gains
         fresh place bare,
     refl,
   )
 
   pub stands_gained : Stands (made ++ a ∷ []) (written ++ noted a.place span)
-      (slice_set spots t s2 ++ model_node_at a.place (shape_of_kind a.kind) (defined_by a.kind) span ∷ [])
+      (slice_set models t s2 ++ model_node_at a.place (shape_of_kind a.kind) (defined_by a.kind) span ∷ [])
   stands_gained = record {
-    tree = tree_gain spots t s s2 (model_node_at a.place (shape_of_kind a.kind) (defined_by a.kind) span) x st.tree
+    tree = tree_gain models t s s2 (model_node_at a.place (shape_of_kind a.kind) (defined_by a.kind) span) x st.tree
         here gains fresh place bare;
     tells =
-        each_gain spots t s s2 (model_node_at a.place (shape_of_kind a.kind) (defined_by a.kind) span) x st.tree here
+        each_gain models t s s2 (model_node_at a.place (shape_of_kind a.kind) (defined_by a.kind) span) x st.tree here
         gains fresh place bare (Tells (made ++ a ∷ []) (written ++ noted a.place span)) tells_parent
-        tells_last tells_kept;
+        tells_last tells_further;
     covers = λ p k e. elim (kind_back made a p k e) [
       | inl earlier ↦ let c = st.covers p k earlier in (c.0, gained_grows c.0 p c.1)
       | inr same ↦ (
-        length spots,
-        subst (λ (q : Place). StandsAt (slice_set spots t s2 ++ model_node_at a.place (shape_of_kind a.kind)
-            (defined_by a.kind) span ∷ []) (length spots) q) same gained_last,
+        length models,
+        subst (λ (q : Place). StandsAt (slice_set models t s2 ++ model_node_at a.place (shape_of_kind a.kind)
+            (defined_by a.kind) span ∷ []) (length models) q) same gained_last,
       )
     ];
     rooted = kind_else made a [] inner ∙ st.rooted;

@@ -17,68 +17,68 @@ use Rattle.edit_tree.specs.Nodes.{names_of}
 use Rattle.edit_document.specs.OneStatement.{HasMember, IsStatementCount}
 use Rattle.edit_tree.specs.DocumentViews.{DocumentViews, tree_of}
 use Rattle.edit_tree.specs.Written.{values}
-use Rattle.edit_document.proofs.AssertedSpots.{Stands}
+use Rattle.edit_document.proofs.AssertedModels.{Stands}
 use Rattle.edit_document.proofs.NodeStatements.{value_states, super_states, array_states, headed_states, names_seen, only_states, other_states}
 use Rattle.edit_tree.proofs.Shallow.{one_form}
 use Rattle.edit_document.proofs.ShownForms.{shown_bytes}
-use Rattle.edit_document.proofs.Views.{Opened, opened, Found, view_spot}
+use Rattle.edit_document.proofs.Views.{Opened, opened, Found, view_model}
 use Rattle.edit_document.proofs.Wholes.{stands_of}
 
 -- the spots of a document stand for the assertions of its form
 pub stood : (inside : Inside) (d : DocumentViews) (read : IsRead inside) (view : document_view_of inside ≡ d)
     → IsUtf8 (string_bytes inside.text) → (form : Text) → IsDocument d.bytes form
-    → Stands (assertions form) (map placed (values form)) (opened inside d read view).spots
+    → Stands (assertions form) (map placed (values form)) (opened inside d read view).models
 unfolding opened
 stood inside d read view u form manifest =
-    subst (λ g. Stands (assertions g) (map placed (values g)) read.spots)
+    subst (λ g. Stands (assertions g) (map placed (values g)) read.models)
     (one_form d.bytes read.form form
     (subst (λ b. IsDocument b read.form) (shown_bytes inside d view) read.manifest) manifest)
     (stands_of inside read u)
 
 -- a node that is a member
 module _ (d : DocumentViews) (nodes : List Node) (opens : Opened d nodes) (n : ℕ) (node : Node)
-    (f : Found d nodes opens.spots n node) (form : Text)
-    (st : Stands (assertions form) (map placed (values form)) opens.spots) (upper : Place) (name : List ℕ)
+    (f : Found d nodes opens.models n node) (form : Text)
+    (st : Stands (assertions form) (map placed (values form)) opens.models) (upper : Place) (name : List ℕ)
     (place : node_place d n ≡ at upper (key name)) where
-  there : f.spot.place ≡ at upper (key name)
+  there : f.model.place ≡ at upper (key name)
   there = sym f.place ∙ place
 
-  here_is : is_one_statement form (node_place d n) ≡ is_one_statement form f.spot.place
+  here_is : is_one_statement form (node_place d n) ≡ is_one_statement form f.model.place
   here_is = ap (λ p. is_one_statement form p) f.place
 
-  taken : (t : DefinedBy) → node.taken ≡ t → f.spot.taken ≡ t
+  taken : (t : DefinedBy) → node.taken ≡ t → f.model.taken ≡ t
   taken t e = sym f.keeps.taken ∙ e
 
   pub value_answer : node.taken ≡ Value → is_one_statement form (node_place d n) ≡ true
-  value_answer e = here_is ∙ value_states form opens.spots n f.spot st f.stands upper name there
+  value_answer e = here_is ∙ value_states form opens.models n f.model st f.stands upper name there
       (taken Value e)
 
   pub super_answer : node.taken ≡ Super → is_one_statement form (node_place d n) ≡ false
-  super_answer e = here_is ∙ super_states form opens.spots n f.spot st f.stands upper name there
+  super_answer e = here_is ∙ super_states form opens.models n f.model st f.stands upper name there
       (taken Super e)
 
   pub array_answer : node.taken ≡ Array → is_one_statement form (node_place d n) ≡ false
-  array_answer e = here_is ∙ array_states form opens.spots n f.spot st f.stands upper name there
+  array_answer e = here_is ∙ array_states form opens.models n f.model st f.stands upper name there
       (taken Array e)
 
   pub header_answer : node.taken ≡ Header → is_one_statement form (node_place d n) ≡ false
-  header_answer e = here_is ∙ headed_states form opens.spots n f.spot st f.stands upper name there Header
+  header_answer e = here_is ∙ headed_states form opens.models n f.model st f.stands upper name there Header
       (taken Header e) refl refl
 
   pub element_answer : node.taken ≡ Element → is_one_statement form (node_place d n) ≡ false
-  element_answer e = here_is ∙ headed_states form opens.spots n f.spot st f.stands upper name there Element
+  element_answer e = here_is ∙ headed_states form opens.models n f.model st f.stands upper name there Element
       (taken Element e) refl refl
 
   -- the names that are seen are the spot's
-  names_are : node.taken ≡ Dotted → names_in (node_view d n) ≡ names_of f.spot
+  names_are : node.taken ≡ Dotted → names_in (node_view d n) ≡ names_of f.model
   names_are e =
-      ap (λ v. names_in v) (view_spot d opens.spots n f.spot opens.nodes_are opens.tree f.stands)
-      ∙ names_seen form opens.spots n f.spot st f.stands upper name there (taken Dotted e)
+      ap (λ v. names_in v) (view_model d opens.models n f.model opens.nodes_are opens.tree f.stands)
+      ∙ names_seen form opens.models n f.model st f.stands upper name there (taken Dotted e)
 
   pub only_answer : node.taken ≡ Dotted → (m : ℕ) → HasMember d n (Some m)
       → IsStatementCount form d n (AsMember m)
   only_answer e m h = (
-    here_is ∙ only_states form opens.spots n f.spot st f.stands upper name there (taken Dotted e) h.0
+    here_is ∙ only_states form opens.models n f.model st f.stands upper name there (taken Dotted e) h.0
         (sym (names_are e) ∙ h.1)
         ∙ ap (λ p. is_one_statement form (at p (key h.0))) (sym f.place) ∙
         ap (λ p. is_one_statement form p) (sym h.2.1),
@@ -88,7 +88,7 @@ module _ (d : DocumentViews) (nodes : List Node) (opens : Opened d nodes) (n : �
   pub other_answer : node.taken ≡ Dotted → HasMember d n None
       → is_one_statement form (node_place d n) ≡ false
   other_answer e h =
-      here_is ∙ other_states form opens.spots n f.spot st f.stands upper name there (taken Dotted e)
+      here_is ∙ other_states form opens.models n f.model st f.stands upper name there (taken Dotted e)
       (λ one. h (ap length (names_are e) ∙ one))
 
 -- ---- the only member

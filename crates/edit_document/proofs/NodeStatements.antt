@@ -14,7 +14,7 @@ use Rattle.edit_tree.specs.Redefinition.{defined_by, can_extend}
 use Rattle.edit_tree.specs.Tree.{kind_at, members_of}
 use Rattle.edit_tree.specs.Written.{values}
 use Rattle.edit_tree.proofs.AlonePlaces.{header_none, array_none, headed_here, first_allows}
-use Rattle.edit_document.proofs.AssertedSpots.{Stands, Tells, Lists, shape_of_kind, was_asserted, step_below}
+use Rattle.edit_document.proofs.AssertedModels.{Stands, Tells, Lists, shape_of_kind, was_asserted, step_below}
 use Rattle.edit_tree.proofs.HeadedPlaces.{headed_up}
 use Rattle.edit_tree.proofs.MoreAssertions.{allowed}
 use Rattle.edit_tree.proofs.NamedHeads.{is_alone, one_statement_is}
@@ -22,7 +22,7 @@ use Rattle.edit_tree.proofs.NamedPairs.{IsKeyed}
 use Rattle.edit_document.proofs.OnceLists.{apart_once, names_apart}
 use Rattle.edit_tree.proofs.OneStatements.{first_fits, leaf_alone, none_alone, headed_alone, at_cons, only_alone, bare_alone, two_alone}
 use Rattle.edit_tree.proofs.SamePlace.{last_same, not_root}
-use Rattle.edit_document.proofs.Views.{view_of_spot}
+use Rattle.edit_document.proofs.Views.{view_of_model}
 use Rattle.edit_document.proofs.MemberViews.{names_keys}
 use Rattle.edit_document.proofs.Wholes.{name_at, number_at}
 
@@ -78,14 +78,14 @@ first_apart : zero ≡ suc zero → ⊥
 first_apart e = cc
 
 -- a node whose place is that of a member
-module _ (form : Text) (spots : List ModelNode) (n : ℕ) (s : ModelNode)
-    (st : Stands (assertions form) (map placed (values form)) spots) (here : slice_get spots n ≡ Some s)
+module _ (form : Text) (models : List ModelNode) (n : ℕ) (s : ModelNode)
+    (st : Stands (assertions form) (map placed (values form)) models) (here : slice_get models n ≡ Some s)
     (q : Place) (name : List ℕ) (place : s.place ≡ at q (key name)) where
   made : List Assertion
   made = assertions form
 
-  told : Tells (assertions form) (map placed (values form)) s
-  told = st.tells n s here
+  own_tells : Tells (assertions form) (map placed (values form)) s
+  own_tells = st.tells n s here
 
   inner : s.place ≡ [] → ⊥
   inner root = not_root q (key name) (sym place ∙ root)
@@ -162,7 +162,7 @@ module _ (form : Text) (spots : List ModelNode) (n : ℕ) (s : ModelNode)
     fits : are_compatible (st.tells n s here).kind (dotted false) ≡ true
     fits = first_fits (assertions form) s.place (st.tells n s here).kind (dotted false) member_defined free
 
-    pub names_seen : names_in (view_of_spot s) ≡ names_of s
+    pub names_seen : names_in (view_of_model s) ≡ names_of s
     names_seen =
         ap (λ x. names_in (view_of_shape x (names_of s) (length s.elements))) (st.tells n s here).shape
         ∙ table_names s (st.tells n s here).kind fits
@@ -182,7 +182,7 @@ module _ (form : Text) (spots : List ModelNode) (n : ℕ) (s : ModelNode)
         × (m : List ℕ) × (slice_get (names_of s) i ≡ Some m) × (x ≡ key m)
     member_named (key m) k e =
         let c = st.covers (at s.place (key m)) k e in
-        let b = step_below (assertions form) (map placed (values form)) spots n s (key m) st here c.0 c.1 in
+        let b = step_below (assertions form) (map placed (values form)) models n s (key m) st here c.0 c.1 in
         let i = name_at s.members m c.0 b in
         (i.0, m, i.1, refl)
     member_named (index i) k e =

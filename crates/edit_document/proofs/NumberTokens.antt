@@ -18,11 +18,11 @@ use Rattle.edit_tree.specs.WalkState.{IsToken, IsDecodedAt}
 use Rattle.edit_syntax.proofs.DigitLaws.{IsNumber}
 use Rattle.edit_syntax.proofs.ValueEdges.{value_rest, integer_ascii, float_ascii, datetime_ascii}
 use Rattle.edit_tree.proofs.Ends.{Ends, Small, ascii_text}
-use Rattle.edit_tree.proofs.WalkedTokens.{said_word}
+use Rattle.edit_tree.proofs.WalkedTokens.{token_text_read}
 
 -- the text of a number is of ASCII and not empty
 abbrev IsPlain : List ℕ → Type 0
-IsPlain word = (0 < length word) × All is_ascii word
+IsPlain token_text = (0 < length token_text) × All is_ascii token_text
 
 ascii_is : (b : ℕ) → b < 128 → is_ascii b ≡ true
 ascii_is b h = grind (arith, nat_tests)
@@ -41,41 +41,41 @@ number_plain (datetime d) h s = let a = datetime_ascii d h in (a.0, all_ascii (v
 number_plain _ h s = absurd s
 
 -- the mark of a number
-abbrev number_mark : Value → List ℕ → SyntaxToken
-number_mark v rest = token_between (value_kind v) (value v rest) rest
+abbrev token_of_number : Value → List ℕ → SyntaxToken
+token_of_number v rest = token_between (value_kind v) (value v rest) rest
 
-plain_told : (k : TokenKind) (bytes text rest word : List ℕ) → text ≡ word ++ rest → IsPlain word
-    → Ends bytes text → as_text (take (length text - length rest) (suffix bytes (length text))) ≡ Some word
-plain_told k bytes text rest word e plain ends =
+plain_token_text : (k : TokenKind) (bytes text rest token_text : List ℕ) → text ≡ token_text ++ rest → IsPlain token_text
+    → Ends bytes text → as_text (take (length text - length rest) (suffix bytes (length text))) ≡ Some token_text
+plain_token_text k bytes text rest token_text e plain ends =
     let P : List ℕ → Type 0 = λ t. as_text (take (length t - length rest) (suffix bytes (length t)))
-    ≡ Some word in
-    subst P (sym e) (said_word bytes word rest (ascii_text is_ascii ascii_small word plain.1)
+    ≡ Some token_text in
+    subst P (sym e) (token_text_read bytes token_text rest (ascii_text is_ascii ascii_small token_text plain.1)
     (subst (Ends bytes) e ends))
 
 number_said : (bytes : List ℕ) (v : Value) (rest : List ℕ) → IsValue v → IsNumber v
-    → Ends bytes (value v rest) → token_value bytes (number_mark v rest) ≡ Some (value v [])
+    → Ends bytes (value v rest) → token_value bytes (token_of_number v rest) ≡ Some (value v [])
 unfolding token_value
-number_said bytes (integer n) rest h s ends = plain_told kinds.Integer bytes (value (integer n) rest) rest
+number_said bytes (integer n) rest h s ends = plain_token_text kinds.Integer bytes (value (integer n) rest) rest
     (value (integer n) []) (value_rest (integer n) rest) (number_plain (integer n) h s) ends
-number_said bytes (float f) rest h s ends = plain_told kinds.Float bytes (value (float f) rest) rest
+number_said bytes (float f) rest h s ends = plain_token_text kinds.Float bytes (value (float f) rest) rest
     (value (float f) []) (value_rest (float f) rest) (number_plain (float f) h s) ends
-number_said bytes (datetime d) rest h s ends = plain_told kinds.DateTime bytes (value (datetime d) rest) rest
+number_said bytes (datetime d) rest h s ends = plain_token_text kinds.DateTime bytes (value (datetime d) rest) rest
     (value (datetime d) []) (value_rest (datetime d) rest) (number_plain (datetime d) h s) ends
 number_said bytes _ rest h s ends = absurd s
 
 -- a token that nothing delimits stands in the text with this meaning
-token_at : (k : TokenKind) (bytes text word rest : List ℕ) → text ≡ word ++ rest
-    → delimited k word rest ≡ word ++ rest → HasDecodedValue k word word → (ends : Ends bytes text)
-    → token_value bytes (token_between k text rest) ≡ Some word
+token_at : (k : TokenKind) (bytes text token_text rest : List ℕ) → text ≡ token_text ++ rest
+    → delimited k token_text rest ≡ token_text ++ rest → HasDecodedValue k token_text token_text → (ends : Ends bytes text)
+    → token_value bytes (token_between k text rest) ≡ Some token_text
     → (name : List ℕ) × (token_value bytes (token_between k text rest) ≡ Some name) × IsDecodedAt bytes (token_between k text rest) name
-token_at k bytes text word rest e d says ends is =
+token_at k bytes text token_text rest e d says ends is =
     let whole = e ∙ sym d in
     let at = ends.1 ∙ ap (λ (t : List ℕ). ends.0 ++ t) whole in
-    (word, is, (ends.0, word, rest, at, ap length whole, refl, says))
+    (token_text, is, (ends.0, token_text, rest, at, ap length whole, refl, says))
 
 -- the mark of a number is the mark of a token
 pub number_token : (bytes : List ℕ) (v : Value) (rest : List ℕ) → IsValue v → IsNumber v
-    → Ends bytes (value v rest) → IsToken bytes (number_mark v rest)
+    → Ends bytes (value v rest) → IsToken bytes (token_of_number v rest)
 number_token bytes (integer n) rest h s ends e =
     let a = number_plain (integer n) h s in
     token_at kinds.Integer bytes (value (integer n) rest) (value (integer n) []) rest
@@ -92,7 +92,7 @@ number_token bytes _ rest h s ends e = absurd s
 
 -- the walk takes the mark of a number for what it shows
 pub number_step : (bytes : List ℕ) (v : Value) (rest : List ℕ) → IsValue v → IsNumber v
-    → Ends bytes (value v rest) → (st : State) → step bytes (number_mark v rest) st
+    → Ends bytes (value v rest) → (st : State) → step bytes (token_of_number v rest) st
     ≡ value_added st (shape_of_value v) (Some (span_of v rest))
 unfolding step
 number_step bytes (integer n) rest h s ends st =

@@ -151,10 +151,10 @@ the_last_line_keeps_what_follows = removes (codes "a = 1\nb = 2\n\n# e") (key (c
     (codes "a = 1\n\n# e") refl
 
 -- U+FEFF stays
-pub behind_the_mark : Removes (0xEF ∷ 0xBB ∷ 0xBF ∷ codes "# c\na = 1\n# d\nb = 2") (key (codes "a") ∷ [])
+pub behind_the_byte_order_mark : Removes (0xEF ∷ 0xBB ∷ 0xBF ∷ codes "# c\na = 1\n# d\nb = 2") (key (codes "a") ∷ [])
     (0xEF ∷ 0xBB ∷ 0xBF ∷ codes "# d\nb = 2")
 unfolding on_texts
-behind_the_mark = removes (0xEF ∷ 0xBB ∷ 0xBF ∷ codes "# c\na = 1\n# d\nb = 2") (key (codes "a") ∷ [])
+behind_the_byte_order_mark = removes (0xEF ∷ 0xBB ∷ 0xBF ∷ codes "# c\na = 1\n# d\nb = 2") (key (codes "a") ∷ [])
     (0xEF ∷ 0xBB ∷ 0xBF ∷ codes "# d\nb = 2") refl
 
 -- a value over several lines

@@ -17,7 +17,7 @@ use Rattle.edit_tree.specs.Literals.{literal_of}
 use Rattle.edit_tree.specs.Replaces.{Edits, replaced, edited, Swaps, Replaces, AreValues}
 use Rattle.edit_document.specs.Splices.{Range, range_of, IsRangeFor, AreRanges}
 use Rattle.edit_tree.proofs.ReplacedTree.{AreApart, replaced_document, replaced_view}
-use Rattle.edit_tree.proofs.ReplacedStrings.{told_value, one_apart}
+use Rattle.edit_tree.proofs.ReplacedStrings.{value_written, one_apart}
 use Rattle.edit_document.proofs.SortedRanges.{AreRangesFor, Rewrites, ranges_rewrite}
 use Rattle.edit_document.proofs.LocatedEdits.{first_of_distinct}
 use Rattle.std.specs.Str.{IsUtf8}
@@ -30,7 +30,7 @@ replaces_apart edits old new form manifest apart e = record {
   form = form;
   was = manifest;
   bytes = e;
-  kept = subst (λ (b : List ℕ). Swaps literal_of (edited edits form) b new)
+  swaps = subst (λ (b : List ℕ). Swaps literal_of (edited edits form) b new)
       (sym manifest.grammar.spelled)
       (subst (λ (b : List ℕ). Swaps literal_of (edited edits form) (text form) b) (sym e)
       (replaced_swaps literal_of edits form (apart_none edits form apart)));
@@ -54,7 +54,7 @@ pub range_tells : (form : Text) (p : Place) (r : Option (ℕ × ℕ)) → HasRan
     → is_some r ≡ is_value_at form p
 range_tells form p None h = sym h
 range_tells form p (Some q) h = sym (ap (λ (z : Place). is_value_at form z) (sym h.there) ∙
-    listed_value form h.placed_value (contained_among h.placed_value (values form) h.told))
+    listed_value form h.placed_value (contained_among h.placed_value (values form) h.listed))
 
 abbrev Written : Type 0
 Written = Vec WrittenStep × String Global
@@ -91,10 +91,10 @@ ranged_more form edits i e old new r lt is pushed h range =
     (sym (ap (map range_of) pushed ∙ map-append range_of old (r ∷ [])))
     (ranges_push form (take i (edit_views edits)) (map range_of old) (seen e) (range_of r) h range))
 
-pub range_seen : (form : Text) (e : Written) (steps : List WrittenStep) (told : List ℕ) (r : Range)
-    → steps ≡ e.0.items → told ≡ string_bytes e.1 → IsRangeFor form (place_view steps, told) r
+pub range_seen : (form : Text) (e : Written) (steps : List WrittenStep) (listed : List ℕ) (r : Range)
+    → steps ≡ e.0.items → listed ≡ string_bytes e.1 → IsRangeFor form (place_view steps, listed) r
     → IsRangeFor form (seen e) r
-range_seen form e steps told r place said h =
+range_seen form e steps listed r place said h =
     subst (λ (p : Place × List ℕ). IsRangeFor form p r)
     (ap₂ (λ (l : List WrittenStep) (t : List ℕ). edit_of l t) place said) h
   where
@@ -123,10 +123,10 @@ one_range form p said r range = record {
 pub one_rewrite : (whole : List ℕ) (form : Text) (p : Place) (said : List ℕ) (r : Range)
     → IsDocument whole form → IsUtf8 whole → is_value_at form p ≡ true → IsRangeFor form (p, said) r
     → Rewrites whole (r ∷ []) (text (replaced ((p, said) ∷ []) form))
-one_rewrite whole form p said r d utf8 told range =
+one_rewrite whole form p said r d utf8 listed range =
     let spelled = d.grammar.spelled in
     let edits : Edits = (p, said) ∷ [] in
-    let apart = one_apart form p said (told_value form p d.no_clash told) in
+    let apart = one_apart form p said (value_written form p d.no_clash listed) in
     let are = one_range form p said r range in
     subst (λ (l : List ℕ). Rewrites l (r ∷ []) (text (replaced edits form))) (sym spelled)
     (ranges_rewrite form edits (r ∷ []) d.no_clash d.grammar.well_formed (apart_none edits form apart)
@@ -135,6 +135,6 @@ one_rewrite whole form p said r d utf8 told range =
 pub replaces_one : (old new : List ℕ) (form : Text) (p : Place) (said : List ℕ) → IsDocument old form
     → is_value_at form p ≡ true → new ≡ text (replaced ((p, said) ∷ []) form)
     → Replaces ((p, said) ∷ []) old new
-replaces_one old new form p said manifest told e =
+replaces_one old new form p said manifest listed e =
     replaces_apart ((p, said) ∷ []) old new form manifest
-    (one_apart form p said (told_value form p manifest.no_clash told)) e
+    (one_apart form p said (value_written form p manifest.no_clash listed)) e

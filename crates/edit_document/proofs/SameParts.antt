@@ -7,7 +7,7 @@ use Rattle.edit_tree.specs.Assertions.{Step, key, index, Place, at, same_step}
 use Rattle.edit_tree.specs.Tree.{View, string, truth, whole, fractional, moment, static_array, table_array, inline_table, table}
 use Rattle.edit_tree.specs.DocumentViews.{DocumentViews, tree_of}
 use Rattle.edit_document.specs.Items.{node_place, node_view, names_in, count_in}
-use Rattle.edit_document.specs.Compared.{SameBelow, kind_of, word_of, element_step, nth_part, AreKeys, IsChildIndex}
+use Rattle.edit_document.specs.Compared.{SameBelow, kind_of, value_text, element_step, nth_part, AreKeys, IsChildIndex}
 use Rattle.edit_tree.proofs.SamePlace.{same_step_is, same_step_self}
 
 -- the same stands at the first parts
@@ -138,8 +138,8 @@ same_part d n e m step same q = one_down d (node_place d n) step q ∙ same (ste
 
 -- ---- the same view
 
-worded : ℕ → List ℕ → View
-worded k w = if k == 0 then string w else
+scalar_of_kind : ℕ → List ℕ → View
+scalar_of_kind k w = if k == 0 then string w else
     (if k == 3 then whole w else (if k == 4 then fractional w else moment w))
 
 assemble : ℕ → Option (List ℕ) → List (List ℕ) → ℕ → View
@@ -150,10 +150,10 @@ assemble k w names n =
     else (if k == 9 then table (map key names)
     else (if k == 2 then truth true
     else (if k == 1 then truth false
-    else worded k (unwrap_or w []))))))
+    else scalar_of_kind k (unwrap_or w []))))))
 
-assembled : (v : View) → AreKeys v → assemble (kind_of v) (word_of v) (names_in v) (count_in v) ≡ v
-unfolding assemble worded
+assembled : (v : View) → AreKeys v → assemble (kind_of v) (value_text v) (names_in v) (count_in v) ≡ v
+unfolding assemble scalar_of_kind
 assembled (string s) k = refl
 assembled (truth true) k = refl
 assembled (truth false) k = refl
@@ -165,14 +165,14 @@ assembled (table_array n) k = refl
 assembled (inline_table ms) k = ap inline_table (sym k)
 assembled (table ms) k = ap table (sym k)
 
-pub same_views : (v w : View) → AreKeys v → AreKeys w → kind_of v ≡ kind_of w → word_of v ≡ word_of w
+pub same_views : (v w : View) → AreKeys v → AreKeys w → kind_of v ≡ kind_of w → value_text v ≡ value_text w
     → names_in v ≡ names_in w → count_in v ≡ count_in w → v ≡ w
 same_views v w kv kw a b c d =
     sym (assembled v kv)
-    ∙ ap (λ k. assemble k (word_of v) (names_in v) (count_in v)) a
+    ∙ ap (λ k. assemble k (value_text v) (names_in v) (count_in v)) a
     ∙ ap (λ (x : Option (List ℕ)). assemble (kind_of w) x (names_in v) (count_in v)) b
-    ∙ ap (λ (x : List (List ℕ)). assemble (kind_of w) (word_of w) x (count_in v)) c
-    ∙ ap (λ x. assemble (kind_of w) (word_of w) (names_in w) x) d ∙ assembled w kw
+    ∙ ap (λ (x : List (List ℕ)). assemble (kind_of w) (value_text w) x (count_in v)) c
+    ∙ ap (λ x. assemble (kind_of w) (value_text w) (names_in w) x) d ∙ assembled w kw
 
 -- ---- one part more
 

@@ -25,34 +25,34 @@ form_same inside shown form read view manifest =
     subst (λ (b : List ℕ). IsDocument b form) (sym (shown_bytes inside shown view)) manifest in
     one_form (string_bytes inside.text) form read.form here read.manifest
 
-pub open_spots : (inside : Inside) (shown : DocumentViews) → (read : IsRead inside)
+pub open_models : (inside : Inside) (shown : DocumentViews) → (read : IsRead inside)
     → document_view_of inside ≡ shown
-    → shown.nodes ≡ map model_node_view read.spots
+    → shown.nodes ≡ map model_node_view read.models
 unfolding document_view_by
-open_spots inside shown read view = ap (λ (s : DocumentViews). s.nodes) (sym view) ∙ ap node_views read.found
+open_models inside shown read view = ap (λ (s : DocumentViews). s.nodes) (sym view) ∙ ap node_views read.found
 
 pub shows_tree : (inside : Inside) (shown : DocumentViews) (form : Text) → IsRead inside
     → document_view_of inside ≡ shown
     → IsDocument shown.bytes form → ShowsTree shown form
 shows_tree inside shown form read view manifest place =
-    ap (λ (ns : List (Place × View)). node_at ns place) (open_spots inside shown read view) ∙
+    ap (λ (ns : List (Place × View)). node_at ns place) (open_models inside shown read view) ∙
     read.views place ∙ ap (λ (t : Text). view_at t place)
     (sym (form_same inside shown form read view manifest))
 
 -- ---- the pieces
 
 -- the text is kept in what was written last and what stands around it
-pub pieces_kept : (inside : Inside) (shown : DocumentViews) → document_view_of inside ≡ shown
+pub pieces_written : (inside : Inside) (shown : DocumentViews) → document_view_of inside ≡ shown
     → shown.pieces ≡ pieces_of shown.bytes inside.written
 unfolding document_view_by
-pieces_kept inside shown view =
+pieces_written inside shown view =
     ap (λ (s : DocumentViews). s.pieces) (sym view)
     ∙ ap (λ (b : List ℕ). pieces_of b inside.written) (shown_bytes inside shown view)
 
 -- and the text may be cut there
-pub range_kept : (inside : Inside) (shown : DocumentViews) → IsRead inside → document_view_of inside ≡ shown
+pub range_written : (inside : Inside) (shown : DocumentViews) → IsRead inside → document_view_of inside ≡ shown
     → IsRange shown.bytes inside.written
-range_kept inside shown read view =
+range_written inside shown read view =
     subst (λ (b : List ℕ). IsRange b inside.written) (shown_bytes inside shown view) read.written
 
 -- another range of the text may be kept
@@ -60,7 +60,7 @@ pub read_again : (inside : Inside) (shown : DocumentViews) (w : ℕ × ℕ) → 
     → document_view_of inside ≡ shown
     → IsRange shown.bytes w → IsRead (record { text = inside.text; nodes = inside.nodes; written = w })
 read_again inside shown w read view range = record {
-  spots = read.spots;
+  models = read.models;
   found = read.found;
   form = read.form;
   manifest = read.manifest;

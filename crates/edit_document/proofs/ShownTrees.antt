@@ -12,7 +12,7 @@ use Rattle.edit_tree.specs.Nodes.{ModelNode, names_of, view_of_shape, model_node
 use Rattle.edit_tree.proofs.SamePlace.{same_step_self}
 use Rattle.edit_tree.proofs.MoreAssertions.{first_kind, first_is}
 use Rattle.edit_tree.proofs.MoreMembers.{is_headed, steps, has, has_step}
-use Rattle.edit_document.proofs.AssertedSpots.{Lists, shape_of_kind, Tells, Stands}
+use Rattle.edit_document.proofs.AssertedModels.{Lists, shape_of_kind, Tells, Stands}
 use Rattle.edit_document.proofs.Arrays.{elements_full}
 use Rattle.edit_tree.proofs.ArrayCounts.{IsEven}
 use Rattle.edit_document.proofs.Views.{node_first, node_none}
@@ -54,10 +54,10 @@ keys_back (key n ∷ xs) h = ap (λ (ys : List Step). key n ∷ ys) (keys_back x
 keys_back (index i ∷ xs) h = absurd h.0
 
 -- of what has no elements
-members_keys : (made : List Assertion) (written : List Placed) (spots : List ModelNode) (p : Place) (k : Kind)
-    → Stands made written spots → first_kind made p ≡ Some k → ((i : ℕ) → Lists k i → ⊥)
+members_keys : (made : List Assertion) (written : List Placed) (models : List ModelNode) (p : Place) (k : Kind)
+    → Stands made written models → first_kind made p ≡ Some k → ((i : ℕ) → Lists k i → ⊥)
     → members_of made p ≡ map key (key_names (members_of made p))
-members_keys made written spots p k st first other = keys_back (members_of made p)
+members_keys made written models p k st first other = keys_back (members_of made p)
     (all_once (steps made p)
     (all_keys (steps made p) (λ i. has_step made p (index i) ∙ none i (kind_at made (at p (index i))) refl)))
   where
@@ -111,14 +111,14 @@ AreFull made = (p : Place) (g : List Between) (es : Elements) (i : ℕ)
     → kind_at made p ≡ Some (leaf (array g es)) → i < count_elements es → kind_at made (at p (index i)) ≡ None
     → ⊥
 
-spot_view : (made : List Assertion) (written : List Placed) (spots : List ModelNode) (n : ℕ) (s : ModelNode)
-    → Stands made written spots → IsEven made → AreFull made → slice_get spots n ≡ Some s
+model_view : (made : List Assertion) (written : List Placed) (models : List ModelNode) (n : ℕ) (s : ModelNode)
+    → Stands made written models → IsEven made → AreFull made → slice_get models n ≡ Some s
     → (t : Tells made written s) → view_of_shape s.shape (names_of s) (length s.elements)
     ≡ view_of_kind made s.place t.kind
-spot_view made written spots n s st even full e t =
+model_view made written models n s st even full e t =
     ap (λ x. view_of_shape x (names_of s) (length s.elements)) t.shape
     ∙ kind_view made s.place t.kind (names_of s) (length s.elements)
-    (λ other. members_keys made written spots s.place t.kind st t.first other ∙ ap (map key) (sym t.names))
+    (λ other. members_keys made written models s.place t.kind st t.first other ∙ ap (map key) (sym t.names))
     (counted t.kind refl)
   where
     listed : (v : Value) → t.kind ≡ leaf v → IsCount v (length s.elements)
@@ -127,7 +127,7 @@ spot_view made written spots n s st even full e t =
         ap (λ (x : Kind). Some x) k in
         let inner : s.place ≡ [] → ⊥ = λ root. let clash : Some header_kind ≡ Some (leaf (array g es)) =
         ap (first_kind made) (sym root) ∙ first in cc in
-        elements_full made written spots n s g es st e first
+        elements_full made written models n s g es st e first
         (λ i lt none. full s.place g es i (sym (first_is made s.place inner) ∙ first) lt none)
     listed (basic ps) k = tt
     listed (literal text) k = tt
@@ -147,21 +147,21 @@ spot_view made written spots n s st even full e t =
     counted array_kind same = t.count (ap is_headed same) ∙ sym (even s.place)
     counted element_kind same = t.count (ap is_headed same) ∙ sym (even s.place)
 
-pub tree_shown : (made : List Assertion) (written : List Placed) (spots : List ModelNode) (p : Place)
-    → Stands made written spots → IsEven made → AreFull made
-    → node_at (map model_node_view spots) p ≡ view_in made p
-tree_shown made written spots [] st even full =
+pub tree_shown : (made : List Assertion) (written : List Placed) (models : List ModelNode) (p : Place)
+    → Stands made written models → IsEven made → AreFull made
+    → node_at (map model_node_view models) p ≡ view_in made p
+tree_shown made written models [] st even full =
     let r = st.tree.root in
     let t = st.tells 0 r.0 r.1 in
     let kind : header_kind ≡ t.kind =
     (let same : Some header_kind ≡ Some t.kind = ap (first_kind made) (sym r.2) ∙ t.first in cc) in
-    ap (node_at (map model_node_view spots)) (sym r.2) ∙
-    node_first spots 0 r.0 r.1 (λ i u g same. st.tree.unique i 0 u r.0 g r.1 same)
-    ∙ ap (λ (v : View). Some v) (spot_view made written spots 0 r.0 st even full r.1 t ∙
+    ap (node_at (map model_node_view models)) (sym r.2) ∙
+    node_first models 0 r.0 r.1 (λ i u g same. st.tree.unique i 0 u r.0 g r.1 same)
+    ∙ ap (λ (v : View). Some v) (model_view made written models 0 r.0 st even full r.1 t ∙
     ap (view_of_kind made r.0.place) (sym kind) ∙ ap (λ (q : Place). view_of_kind made q header_kind) r.2)
-tree_shown made written spots (x ∷ xs) st even full = go (kind_at made (x ∷ xs)) refl
+tree_shown made written models (x ∷ xs) st even full = go (kind_at made (x ∷ xs)) refl
   where
-    go : (o : Option Kind) → kind_at made (x ∷ xs) ≡ o → node_at (map model_node_view spots) (x ∷ xs)
+    go : (o : Option Kind) → kind_at made (x ∷ xs) ≡ o → node_at (map model_node_view models) (x ∷ xs)
         ≡ option_map (view_of_kind made (x ∷ xs)) (kind_at made (x ∷ xs))
     go (Some k) e =
         let c = st.covers (x ∷ xs) k e in
@@ -169,12 +169,12 @@ tree_shown made written spots (x ∷ xs) st even full = go (kind_at made (x ∷ 
         let t = st.tells c.0 s c.1.1 in
         let kind : t.kind ≡ k = (let same : Some t.kind ≡ Some k = sym t.first ∙ ap (first_kind made) c.1.2 ∙
         e in cc) in
-        ap (node_at (map model_node_view spots)) (sym c.1.2) ∙
-        node_first spots c.0 s c.1.1 (λ i u g same. st.tree.unique i c.0 u s g c.1.1 same)
-        ∙ ap (λ (v : View). Some v) (spot_view made written spots c.0 s st even full c.1.1 t ∙
+        ap (node_at (map model_node_view models)) (sym c.1.2) ∙
+        node_first models c.0 s c.1.1 (λ i u g same. st.tree.unique i c.0 u s g c.1.1 same)
+        ∙ ap (λ (v : View). Some v) (model_view made written models c.0 s st even full c.1.1 t ∙
         ap (view_of_kind made s.place) kind ∙ ap (λ (q : Place). view_of_kind made q k) c.1.2)
         ∙ sym (ap (option_map (view_of_kind made (x ∷ xs))) e)
-    go None e = node_none spots (x ∷ xs) (λ i u g same.
+    go None e = node_none models (x ∷ xs) (λ i u g same.
         let t = st.tells i u g in
         let some : kind_at made (x ∷ xs) ≡ Some t.kind = ap (first_kind made) (sym same) ∙ t.first in
         let clash : None ≡ Some t.kind = sym e ∙ some in

@@ -10,13 +10,13 @@ use Rattle.edit_tree.specs.NewItems.{NewValue, a_string, a_truth, a_list}
 use Rattle.edit_tree.specs.IntendedTrees.{new_view}
 use Rattle.edit_tree.specs.DocumentViews.{DocumentViews, tree_of}
 use Rattle.edit_document.specs.Items.{node_place, node_view, count_in, IsNodeIndex}
-use Rattle.edit_document.specs.Compared.{kind_of, word_of, nth_part, ShowsValue}
+use Rattle.edit_document.specs.Compared.{kind_of, value_text, nth_part, ShowsValue}
 use Rattle.edit_document.proofs.SameParts.{one_down, NothingElse, NoneBelow}
 use Rattle.edit_document.proofs.Wholes.{element_was}
 
 -- ---- views by their kinds
 
-string_is : (v : View) (w : List ℕ) → kind_of v ≡ 0 → word_of v ≡ Some w → v ≡ string w
+string_is : (v : View) (w : List ℕ) → kind_of v ≡ 0 → value_text v ≡ Some w → v ≡ string w
 string_is (string s) w k e = ap string (same_Some s w e)
 string_is (truth true) w k e = absurd cc
 string_is (truth false) w k e = absurd cc
@@ -92,12 +92,12 @@ module _ (d : DocumentViews) (n : ℕ) (here : At d n) where
 
   pub string_decides : NoneBelow d → NothingElse d n → (w : List ℕ) (r : Bool)
       → kind_of (node_view d n) ≡ 0
-      → Decides r (word_of (node_view d n) ≡ Some w)
+      → Decides r (value_text (node_view d n) ≡ Some w)
       → Decides r (ShowsValue d (node_place d n) (a_string w))
   string_decides below else w r k decided = (
     λ e. leaf_shows below else (a_string w) (string w) (string_is (node_view d n) w k (decided.0 e))
         (λ i. refl) refl (λ t q. refl),
-    λ h. decided.1 (sym (ap word_of (same_Some (string w) (node_view d n) (shown_view (a_string w) h)))),
+    λ h. decided.1 (sym (ap value_text (same_Some (string w) (node_view d n) (shown_view (a_string w) h)))),
   )
 
   pub string_kind : (w : List ℕ) → ShowsValue d (node_place d n) (a_string w)

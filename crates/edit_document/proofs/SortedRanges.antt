@@ -74,7 +74,7 @@ pub edit_among : (form : Text) (edits : Edits) (e : Place × List ℕ) (r : Rang
     → Among e edits → (is : IsRangeFor form e r) → Among (is.0.placed_value, e.1) (edited edits form)
 edit_among form edits e r first m is =
     let w = is.0.placed_value in
-    among_filter (edit_of edits) w (w, e.1) (values form) (contained_among w (values form) is.0.told)
+    among_filter (edit_of edits) w (w, e.1) (values form) (contained_among w (values form) is.0.listed)
     (ap (λ (o : Option (List ℕ)). option_map (λ (said : List ℕ). (w, said)) o)
     (ap (λ (p : Place). new_text edits p) is.0.there ∙ first e m))
 
@@ -119,7 +119,7 @@ edited_range form edits ranges clash are r m =
     let e = text_from edits w.0.place c.0.1 f.1 in
     let q = are.all e.0 e.1 in
     let u = q.2.0.placed_value in
-    let same : u ≡ c.0.0 = values_unique form u w.0 clash (contained_among u (values form) q.2.0.told) w.1
+    let same : u ≡ c.0.0 = values_unique form u w.0 clash (contained_among u (values form) q.2.0.listed) w.1
     (q.2.0.there ∙ e.2) ∙ f.0 in
     subst (λ (z : Range). Among z ranges)
     (same_range q.0 (edit_range total c.0) (q.2.0.starts ∙ ap (λ (z : PlacedValue). start_of total z) same)

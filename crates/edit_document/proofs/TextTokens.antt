@@ -18,7 +18,7 @@ use Rattle.edit_document.proofs.NumberTokens.{number_token}
 use Rattle.edit_document.proofs.MultiTokens.{multi_basic_token, multi_literal_token}
 
 abbrev AreTokens : List ℕ → List SyntaxToken → Type 0
-AreTokens bytes marks = AllByRecursion (IsToken bytes) marks
+AreTokens bytes tokens = AllByRecursion (IsToken bytes) tokens
 
 tokens_append : (bytes : List ℕ) (xs ys : List SyntaxToken) → AreTokens bytes xs → AreTokens bytes ys
     → AreTokens bytes (xs ++ ys)

@@ -15,18 +15,18 @@ use Rattle.edit_tree.specs.Written.{PlacedValue, values, IsWrittenAt}
 use Rattle.edit_tree.proofs.SamePlace.{same_place_self, same_place_is}
 use Rattle.edit_syntax.proofs.Members.{Among, among_contained}
 use Rattle.edit_tree.proofs.UniqueValues.{value_listed}
-use Rattle.edit_tree.proofs.ReplacedStrings.{told_value}
-use Rattle.edit_document.proofs.ShownForms.{shown_bytes, form_same, open_spots, shows_tree}
+use Rattle.edit_tree.proofs.ReplacedStrings.{value_written}
+use Rattle.edit_document.proofs.ShownForms.{shown_bytes, form_same, open_models, shows_tree}
 use Rattle.edit_document.proofs.Views.{Opened, found}
 use Rattle.edit_syntax.proofs.Cases.{by_test}
 
 -- ---- the span that is told at a place is that of a value there
 
-span_told : (ws : List PlacedValue) (p : Place) (s : Span) → span_at (map placed ws) p ≡ Some s
+span_value : (ws : List PlacedValue) (p : Place) (s : Span) → span_at (map placed ws) p ≡ Some s
     → (w : PlacedValue)
     × Among w ws × (w.place ≡ p) × (s ≡ span_of w.value w.after)
-span_told [] p s e = absurd cc
-span_told (w ∷ ws) p s e = go (same_place w.place p) refl e (span_told ws p s)
+span_value [] p s e = absurd cc
+span_value (w ∷ ws) p s e = go (same_place w.place p) refl e (span_value ws p s)
   where
     go : (b : Bool) → same_place w.place p ≡ b
         → cond b (Some (span_of w.value w.after)) (span_at (map placed ws) p) ≡ Some s
@@ -42,10 +42,10 @@ span_told (w ∷ ws) p s e = go (same_place w.place p) refl e (span_told ws p s)
     )
     go false t h ih = let r = ih h in (r.0, inr r.1, r.2, r.3)
 
-told_span : (ws : List PlacedValue) (w : PlacedValue) (p : Place) → Among w ws → w.place ≡ p → (s : Span)
+span_found : (ws : List PlacedValue) (w : PlacedValue) (p : Place) → Among w ws → w.place ≡ p → (s : Span)
     × (span_at (map placed ws) p ≡ Some s)
-told_span [] w p m e = absurd m
-told_span (v ∷ ws) w p m e = go (same_place v.place p) refl m (λ h. told_span ws w p h e)
+span_found [] w p m e = absurd m
+span_found (v ∷ ws) w p m e = go (same_place v.place p) refl m (λ h. span_found ws w p h e)
   where
     go : (b : Bool) → same_place v.place p ≡ b → Among w (v ∷ ws)
         → (Among w ws → (s : Span) × (span_at (map placed ws) p ≡ Some s)) → (s : Span)
@@ -69,7 +69,7 @@ view_some made (s ∷ ss) k e =
 value_span : (form : Text) (bytes : List ℕ) (p : Place) → IsDocument bytes form → is_value_at form p ≡ true
     → (s : Span) × (span_at (map placed (values form)) p ≡ Some s)
 value_span form bytes p manifest h = let w = value_listed form p manifest.no_clash h in
-    told_span (values form) w.0 p w.1 w.2
+    span_found (values form) w.0 p w.1 w.2
 
 -- where nothing stands there is no value
 pub none_value : (inside : Inside) (shown : DocumentViews) (form : Text) (p : Place) → IsRead inside
@@ -77,7 +77,7 @@ pub none_value : (inside : Inside) (shown : DocumentViews) (form : Text) (p : Pl
     → is_value_at form p ≡ false
 none_value inside shown form p read view manifest none =
     by_test (is_value_at form p)
-    (λ h. let v = told_value form p manifest.no_clash h in
+    (λ h. let v = value_written form p manifest.no_clash h in
     let some = view_some (assertions form) p _ v.1 in
     absurd (none_view some.0 (sym none ∙ shows_tree inside shown form read view manifest p ∙ some.1)))
     (λ h. h)
@@ -95,14 +95,14 @@ node_span : (inside : Inside) (shown : DocumentViews) (n : ℕ) (node : Node) (f
 node_span inside shown n node form p read view manifest there lt is =
     let opens : Opened shown inside.nodes.items =
     record {
-      spots = read.spots;
-      nodes_are = open_spots inside shown read view;
-      holds = subst (λ (b : List ℕ). RepresentsNodes b inside.nodes.items read.spots)
+      models = read.models;
+      nodes_are = open_models inside shown read view;
+      holds = subst (λ (b : List ℕ). RepresentsNodes b inside.nodes.items read.models)
           (shown_bytes inside shown view) read.holds;
       tree = read.tree;
     } in
     let f = found shown inside.nodes.items n node opens lt is in
-    f.keeps.span ∙ read.spans n f.spot f.stands ∙ ap (span_at (map placed (values read.form)))
+    f.keeps.span ∙ read.spans n f.model f.stands ∙ ap (span_at (map placed (values read.form)))
     (sym f.place ∙ there) ∙ ap (λ (t : Text). span_at (map placed (values t)) p)
     (sym (form_same inside shown form read view manifest))
 
@@ -130,11 +130,11 @@ pub spanned_value : (inside : Inside) (shown : DocumentViews) (form : Text) (p :
 spanned_value inside shown form p n node s len read view manifest there lt is some size =
     let whole : len ≡ length (text form) = size ∙
     ap length (shown_bytes inside shown view ∙ manifest.grammar.spelled) in
-    let w = span_told (values form) p s
+    let w = span_value (values form) p s
     (sym (node_span inside shown n node form p read view manifest there lt is) ∙ some) in
     record {
       placed_value = w.0;
-      told = among_contained w.0 (values form) w.1;
+      listed = among_contained w.0 (values form) w.1;
       there = w.2;
       starts = ap (λ (k : ℕ). k - s.from) whole ∙ ap (λ (z : Span). length (text form) - z.from) w.3;
       ends = ap (λ (k : ℕ). k - s.to) whole ∙ ap (λ (z : Span). length (text form) - z.to) w.3;

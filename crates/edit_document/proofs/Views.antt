@@ -12,14 +12,14 @@ use Rattle.edit_tree.specs.Nodes.{ModelNode, Shape, names_of, view_of_shape, mod
 use Rattle.edit_document.specs.DocumentLayout.{model_nodes_of, node_views, document_view_by, document_view_of, IsRead}
 use Rattle.edit_document.specs.Items.{viewed, node_place, node_view}
 use Rattle.edit_tree.proofs.SamePlace.{same_place_self, same_place_is, other_place}
-use Rattle.edit_tree.proofs.SpotNodes.{spot_of_node}
+use Rattle.edit_tree.proofs.ModelNodes.{model_of_node}
 
 -- a document that is open: its spots, and the nodes that keep them
 pub record Opened (shown : DocumentViews) (nodes : List Node) : Type 0 where
-  pub spots : List ModelNode
-  pub nodes_are : shown.nodes ≡ map model_node_view spots
-  pub holds : RepresentsNodes shown.bytes nodes spots
-  pub tree : IsTree spots
+  pub models : List ModelNode
+  pub nodes_are : shown.nodes ≡ map model_node_view models
+  pub holds : RepresentsNodes shown.bytes nodes models
+  pub tree : IsTree models
 
 unfoldable pub opened : (inside : Inside) (shown : DocumentViews) → IsRead inside → document_view_of inside ≡ shown
     → Opened shown inside.nodes.items
@@ -29,21 +29,21 @@ opened inside shown read view =
     ap (λ (s : DocumentViews). s.nodes) (sym view) in
     let here : string_bytes inside.text ≡ shown.bytes = ap (λ (s : DocumentViews). s.bytes) view in
     record {
-      spots = read.spots;
+      models = read.models;
       nodes_are = seen ∙ ap node_views read.found;
-      holds = subst (λ (b : List ℕ). RepresentsNodes b inside.nodes.items read.spots) here read.holds;
+      holds = subst (λ (b : List ℕ). RepresentsNodes b inside.nodes.items read.models) here read.holds;
       tree = read.tree;
     }
 
 -- what a spot shows
-abbrev pub view_of_spot : ModelNode → View
-view_of_spot s = view_of_shape s.shape (names_of s) (length s.elements)
+abbrev pub view_of_model : ModelNode → View
+view_of_model s = view_of_shape s.shape (names_of s) (length s.elements)
 
 -- what stands at a place
 
-pub node_first : (spots : List ModelNode) (n : ℕ) (s : ModelNode) → slice_get spots n ≡ Some s
-    → ((i : ℕ) (t : ModelNode) → slice_get spots i ≡ Some t → t.place ≡ s.place → i ≡ n)
-    → node_at (map model_node_view spots) s.place ≡ Some (view_of_spot s)
+pub node_first : (models : List ModelNode) (n : ℕ) (s : ModelNode) → slice_get models n ≡ Some s
+    → ((i : ℕ) (t : ModelNode) → slice_get models i ≡ Some t → t.place ≡ s.place → i ≡ n)
+    → node_at (map model_node_view models) s.place ≡ Some (view_of_model s)
 node_first [] n s e one = absurd cc
 node_first (t ∷ ts) zero s e one =
     let here : t ≡ s = same_Some t s e in
@@ -55,13 +55,13 @@ node_first (t ∷ ts) (suc n) s e one = go (same_place t.place s.place) refl
     down h = cc
 
     go : (b : Bool) → same_place t.place s.place ≡ b → node_at (map model_node_view ts) s.place
-        ≡ Some (view_of_spot s) → node_at (map model_node_view (t ∷ ts)) s.place ≡ Some (view_of_spot s)
+        ≡ Some (view_of_model s) → node_at (map model_node_view (t ∷ ts)) s.place ≡ Some (view_of_model s)
     go true h ih = absurd (let z : 0 ≡ suc n = one 0 t refl (same_place_is t.place s.place h) in cc)
     go false h ih = rw h ih
 
-pub node_none : (spots : List ModelNode) (place : Place)
-    → ((i : ℕ) (t : ModelNode) → slice_get spots i ≡ Some t → t.place ≡ place → ⊥)
-    → node_at (map model_node_view spots) place ≡ None
+pub node_none : (models : List ModelNode) (place : Place)
+    → ((i : ℕ) (t : ModelNode) → slice_get models i ≡ Some t → t.place ≡ place → ⊥)
+    → node_at (map model_node_view models) place ≡ None
 node_none [] place none = refl
 node_none (t ∷ ts) place none =
     rw (other_place t.place place (none 0 t refl)) (node_none ts place (λ i x g. none (suc i) x g))
@@ -75,64 +75,64 @@ abbrev pub view_of_node : List ℕ → Node → View
 view_of_node text node = view_of_shape (shape_of text node.content) (names_of_node text node)
     (length (elements_of node.members))
 
-pub record Found (shown : DocumentViews) (nodes : List Node) (spots : List ModelNode) (n : ℕ) (node : Node) : Type 0 where
-  pub spot : ModelNode
-  pub stands : slice_get spots n ≡ Some spot
-  pub keeps : RepresentsNode shown.bytes node spot
-  pub place : node_place shown n ≡ spot.place
-  pub here : tree_of shown spot.place ≡ Some (view_of_spot spot)
+pub record Found (shown : DocumentViews) (nodes : List Node) (models : List ModelNode) (n : ℕ) (node : Node) : Type 0 where
+  pub model : ModelNode
+  pub stands : slice_get models n ≡ Some model
+  pub keeps : RepresentsNode shown.bytes node model
+  pub place : node_place shown n ≡ model.place
+  pub here : tree_of shown model.place ≡ Some (view_of_model model)
   pub view : node_view shown n ≡ view_of_node shown.bytes node
 
-stand : (shown : DocumentViews) (spots : List ModelNode) (n : ℕ) (s : ModelNode)
-    → shown.nodes ≡ map model_node_view spots
-    → slice_get spots n ≡ Some s → slice_get shown.nodes n ≡ Some (model_node_view s)
-stand shown spots n s e g = rw e (slice_get-map model_node_view spots n ∙ ap (option_map model_node_view) g)
+stand : (shown : DocumentViews) (models : List ModelNode) (n : ℕ) (s : ModelNode)
+    → shown.nodes ≡ map model_node_view models
+    → slice_get models n ≡ Some s → slice_get shown.nodes n ≡ Some (model_node_view s)
+stand shown models n s e g = rw e (slice_get-map model_node_view models n ∙ ap (option_map model_node_view) g)
 
-pub tree_spot : (shown : DocumentViews) (spots : List ModelNode) (n : ℕ) (s : ModelNode)
-    → shown.nodes ≡ map model_node_view spots
-    → IsTree spots → slice_get spots n ≡ Some s → tree_of shown s.place ≡ Some (view_of_spot s)
-tree_spot shown spots n s e tree g = rw e (node_first spots n s g (λ i t h p. tree.unique i n t s h g p))
+pub tree_model : (shown : DocumentViews) (models : List ModelNode) (n : ℕ) (s : ModelNode)
+    → shown.nodes ≡ map model_node_view models
+    → IsTree models → slice_get models n ≡ Some s → tree_of shown s.place ≡ Some (view_of_model s)
+tree_model shown models n s e tree g = rw e (node_first models n s g (λ i t h p. tree.unique i n t s h g p))
 
-pub place_spot : (shown : DocumentViews) (spots : List ModelNode) (n : ℕ) (s : ModelNode)
-    → shown.nodes ≡ map model_node_view spots
-    → slice_get spots n ≡ Some s → node_place shown n ≡ s.place
-place_spot shown spots n s e g = ap (λ (o : Option (Place × View)). (unwrap_or o ([], table [])).0)
-    (stand shown spots n s e g)
+pub place_model : (shown : DocumentViews) (models : List ModelNode) (n : ℕ) (s : ModelNode)
+    → shown.nodes ≡ map model_node_view models
+    → slice_get models n ≡ Some s → node_place shown n ≡ s.place
+place_model shown models n s e g = ap (λ (o : Option (Place × View)). (unwrap_or o ([], table [])).0)
+    (stand shown models n s e g)
 
-pub view_spot : (shown : DocumentViews) (spots : List ModelNode) (n : ℕ) (s : ModelNode)
-    → shown.nodes ≡ map model_node_view spots
-    → IsTree spots → slice_get spots n ≡ Some s → node_view shown n ≡ view_of_spot s
-view_spot shown spots n s e tree g = ap (λ (p : Place). viewed (tree_of shown p))
-    (place_spot shown spots n s e g) ∙ ap viewed (tree_spot shown spots n s e tree g)
+pub view_model : (shown : DocumentViews) (models : List ModelNode) (n : ℕ) (s : ModelNode)
+    → shown.nodes ≡ map model_node_view models
+    → IsTree models → slice_get models n ≡ Some s → node_view shown n ≡ view_of_model s
+view_model shown models n s e tree g = ap (λ (p : Place). viewed (tree_of shown p))
+    (place_model shown models n s e g) ∙ ap viewed (tree_model shown models n s e tree g)
 
 pub within : (shown : DocumentViews) (nodes : List Node) (len n : ℕ) → Opened shown nodes → len ≡ length nodes
     → n < length shown.nodes → n < len
 within shown nodes len n opens size lt =
     let l = opens.holds.len in
-    let m : length shown.nodes ≡ length opens.spots = ap length opens.nodes_are ∙
-    length-map opens.spots model_node_view in
+    let m : length shown.nodes ≡ length opens.models = ap length opens.nodes_are ∙
+    length-map opens.models model_node_view in
     omega arith
 
-kept : {text : List ℕ} {node : Node} {spot : ModelNode} → RepresentsNode text node spot
-    → view_of_node text node ≡ view_of_spot spot
-kept {text} {node} {spot} k =
+text_remains : {text : List ℕ} {node : Node} {model : ModelNode} → RepresentsNode text node model
+    → view_of_node text node ≡ view_of_model model
+text_remains {text} {node} {model} k =
     ap (λ (s : Shape). view_of_shape s (names_of_node text node) (length (elements_of node.members))) k.shape
-    ∙ ap (λ (ns : List (List ℕ)). view_of_shape spot.shape ns (length (elements_of node.members)))
+    ∙ ap (λ (ns : List (List ℕ)). view_of_shape model.shape ns (length (elements_of node.members)))
     (ap names_among k.members)
-    ∙ ap (λ (es : List ℕ). view_of_shape spot.shape (names_of spot) (length es)) k.elements
+    ∙ ap (λ (es : List ℕ). view_of_shape model.shape (names_of model) (length es)) k.elements
 
 pub found : (shown : DocumentViews) (nodes : List Node) (n : ℕ) (node : Node) → (opens : Opened shown nodes)
-    → n < length shown.nodes → node ≡ get_or nodes n node → Found shown nodes opens.spots n node
+    → n < length shown.nodes → node ≡ get_or nodes n node → Found shown nodes opens.models n node
 found shown nodes n node opens lt is =
     let e = slice_get_read nodes (length nodes) n node refl
     (within shown nodes (length nodes) n opens refl lt) is in
-    let s = spot_of_node nodes opens.spots n node opens.holds.len e in
+    let s = model_of_node nodes opens.models n node opens.holds.len e in
     record {
-      spot = s.0;
+      model = s.0;
       stands = s.1;
       keeps = opens.holds.each n node s.0 e s.1;
-      place = place_spot shown opens.spots n s.0 opens.nodes_are s.1;
-      here = tree_spot shown opens.spots n s.0 opens.nodes_are opens.tree s.1;
-      view = view_spot shown opens.spots n s.0 opens.nodes_are opens.tree s.1 ∙
-          sym (kept (opens.holds.each n node s.0 e s.1));
+      place = place_model shown opens.models n s.0 opens.nodes_are s.1;
+      here = tree_model shown opens.models n s.0 opens.nodes_are opens.tree s.1;
+      view = view_model shown opens.models n s.0 opens.nodes_are opens.tree s.1 ∙
+          sym (text_remains (opens.holds.each n node s.0 e s.1));
     }

@@ -17,7 +17,7 @@ use Rattle.edit_tree.proofs.SamePlace.{not_root}
 use Rattle.edit_tree.proofs.MoreAssertions.{first_kind, first_is, kind_stays, kind_new, IsClear, clear_front, clash_last, allowed}
 use Rattle.edit_tree.proofs.MoreMembers.{is_headed, elements_below, elements_stay}
 use Rattle.edit_tree.proofs.Trees.{Grows, grows_then}
-use Rattle.edit_document.proofs.AssertedSpots.{Stands}
+use Rattle.edit_document.proofs.AssertedModels.{Stands}
 use Rattle.edit_document.proofs.MemberAssertions.{Makes, makes, fails, element_makes}
 use Rattle.edit_document.proofs.KeyPlaces.{header_lands}
 use Rattle.edit_tree.proofs.ArrayCounts.{IsEven, arrays_alone}
@@ -63,35 +63,35 @@ pair_stated before made written t p r there (stops e c) = halts e c
 
 -- ---- headers
 
-pub header_stated : (bytes : List ℕ) (spots : List ModelNode) (t : ℕ) (made : List Assertion)
+pub header_stated : (bytes : List ℕ) (models : List ModelNode) (t : ℕ) (made : List Assertion)
     (written : List Placed)
-    (k : Key) (whole rest : List ℕ) → Stands made written spots → IsEven made
-    → PlacedStatement spots (made ++ (fronts made (header_place made [] (names k)) [] (names k) ++ asserts
+    (k : Key) (whole rest : List ℕ) → Stands made written models → IsEven made
+    → PlacedStatement models (made ++ (fronts made (header_place made [] (names k)) [] (names k) ++ asserts
     (header_place made [] (names k)) (header_place made [] (names k)) header_kind ∷ [])) written
     (header_place made [] (names k))
-    (state_after bytes (token_between kinds.Header whole rest ∷ []) (waits (without_pending spots (t ∷ [])) (names k)))
-header_stated bytes spots t made written k whole rest st even =
+    (state_after bytes (token_between kinds.Header whole rest ∷ []) (waits (without_pending models (t ∷ [])) (names k)))
+header_stated bytes models t made written k whole rest st even =
     let q = header_place made [] (names k) in
     let root = st.tree.root in
-    let lands = header_lands spots 0 [] (name k.first)
+    let lands = header_lands models 0 [] (name k.first)
     (key_names k) made q q header_kind made written st root even
     (λ r. arrays_alone made r st.clear.apart) refl (λ e. absurd cc) in
-    go (settled_enters spots (t ∷ []) 0 (name k.first) (key_names k) Super section Header None
+    go (settled_enters models (t ∷ []) 0 (name k.first) (key_names k) Super section Header None
     (made ++ (fronts made q [] (names k) ++ asserts q q header_kind ∷ [])) written q lands)
   where
-    path : state_after bytes (token_between kinds.Header whole rest ∷ []) (waits (without_pending spots (t ∷ [])) (names k))
-        ≡ table_opened (waits (without_pending spots (t ∷ [])) (names k))
-    path = walked_one bytes (token_between kinds.Header whole rest) (waits (without_pending spots (t ∷ [])) (names k)) ∙
-        header_step bytes whole rest (waits (without_pending spots (t ∷ [])) (names k))
+    path : state_after bytes (token_between kinds.Header whole rest ∷ []) (waits (without_pending models (t ∷ [])) (names k))
+        ≡ table_opened (waits (without_pending models (t ∷ [])) (names k))
+    path = walked_one bytes (token_between kinds.Header whole rest) (waits (without_pending models (t ∷ [])) (names k)) ∙
+        header_step bytes whole rest (waits (without_pending models (t ∷ [])) (names k))
 
-    go : Enters spots (made ++ (fronts made (header_place made [] (names k)) [] (names k) ++ asserts
+    go : Enters models (made ++ (fronts made (header_place made [] (names k)) [] (names k) ++ asserts
         (header_place made [] (names k)) (header_place made [] (names k)) header_kind ∷ [])) written (t ∷ [])
         (header_place made [] (names k))
-        (pending_defined (waits (without_pending spots (t ∷ [])) (names k)) 0 Super section Header None)
-        → PlacedStatement spots (made ++ (fronts made (header_place made [] (names k)) [] (names k) ++ asserts
+        (pending_defined (waits (without_pending models (t ∷ [])) (names k)) 0 Super section Header None)
+        → PlacedStatement models (made ++ (fronts made (header_place made [] (names k)) [] (names k) ++ asserts
         (header_place made [] (names k)) (header_place made [] (names k)) header_kind ∷ [])) written
         (header_place made [] (names k))
-        (state_after bytes (token_between kinds.Header whole rest ∷ []) (waits (without_pending spots (t ∷ [])) (names k)))
+        (state_after bytes (token_between kinds.Header whole rest ∷ []) (waits (without_pending models (t ∷ [])) (names k)))
     go (enters now j e s p g) =
         placed_statements now j (path ∙ ap (λ (o : Option (State × ℕ)). o >>= λ r. Some (with_only_table r)) e) s p g
     go (bars e c) = halts (path ∙ ap (λ (o : Option (State × ℕ)). o >>= λ r. Some (with_only_table r)) e) c
@@ -152,8 +152,8 @@ fronts_stay made earlier by p (n ∷ m ∷ ns) q =
     ∙ fronts_stay (made ++ a ∷ []) earlier by (last_element_or_self earlier (at p (key n))) (m ∷ ns) q ∙
     elements_stay made a q refl
 
-module _ (bytes : List ℕ) (spots : List ModelNode) (t : ℕ) (made : List Assertion) (written : List Placed)
-    (k : Key) (whole rest : List ℕ) (st : Stands made written spots) (even : IsEven made) where
+module _ (bytes : List ℕ) (models : List ModelNode) (t : ℕ) (made : List Assertion) (written : List Placed)
+    (k : Key) (whole rest : List ℕ) (st : Stands made written models) (even : IsEven made) where
   abbrev array_at : Place
   array_at = header_place made [] (names k)
 
@@ -170,15 +170,15 @@ module _ (bytes : List ℕ) (spots : List ModelNode) (t : ℕ) (made : List Asse
   one_element = asserts own own element_kind
 
   abbrev waiting : State
-  waiting = waits (without_pending spots (t ∷ [])) (names k)
+  waiting = waits (without_pending models (t ∷ [])) (names k)
 
   element_path : state_after bytes (token_between kinds.ElementHeader whole rest ∷ []) waiting ≡ array_table_opened waiting
   element_path = walked_one bytes (token_between kinds.ElementHeader whole rest) waiting ∙
       element_step bytes whole rest waiting
 
   abbrev with_element_of : State × ℕ → Option State
-  with_element_of r = element_added r.0.spots r.1 section Element None >>= λ e. Some
-      (with_only_table (record r.0 { spots = e.0 }, e.1))
+  with_element_of r = element_added r.0.models r.1 section Element None >>= λ e. Some
+      (with_only_table (record r.0 { models = e.0 }, e.1))
 
   all_made : (made ++ (supers ++ one_array ∷ [])) ++ one_element ∷ []
       ≡ made ++ (supers ++ one_array ∷ one_element ∷ [])
@@ -215,10 +215,10 @@ module _ (bytes : List ℕ) (spots : List ModelNode) (t : ℕ) (made : List Asse
       fronts_stay made made own [] (names k) array_at ∙ sym (even array_at)
 
   element_second : (now : List ModelNode) (j : ℕ) → pending_defined waiting 0 Super sections Array None
-      ≡ Some (without_pending now (t ∷ []), j) → Grows spots now
+      ≡ Some (without_pending now (t ∷ []), j) → Grows models now
       → Makes (made ++ (supers ++ one_array ∷ [])) written now one_element []
       (element_added now j section Element None)
-      → PlacedStatement spots (made ++ (supers ++ one_array ∷ one_element ∷ [])) written own
+      → PlacedStatement models (made ++ (supers ++ one_array ∷ one_element ∷ [])) written own
       (state_after bytes (token_between kinds.ElementHeader whole rest ∷ []) waiting)
   element_second now j e grows (makes later i f s p g) =
       placed_statements later i
@@ -226,15 +226,15 @@ module _ (bytes : List ℕ) (spots : List ModelNode) (t : ℕ) (made : List Asse
       ap (λ (o : Option (List ModelNode × ℕ)). o >>= λ x. Some (with_only_table (without_pending x.0 (t ∷ []), x.1))) f)
       (subst (λ (xs : List Assertion). Stands xs written later) all_made
       (subst (λ (w : List Placed). Stands ((made ++ (supers ++ one_array ∷ [])) ++ one_element ∷ []) w later)
-      (append-nil written) s)) p (grows_then spots now later grows g)
+      (append-nil written) s)) p (grows_then models now later grows g)
   element_second now j e grows (fails f c) =
       halts (element_path ∙ ap (λ (o : Option (State × ℕ)). o >>= λ r. with_element_of r) e ∙
       ap (λ (o : Option (List ModelNode × ℕ)). o >>= λ x. Some (with_only_table (without_pending x.0 (t ∷ []), x.1))) f)
       (λ clear. c (subst IsClear (sym all_made) clear))
 
-  element_first : Enters spots (made ++ (supers ++ one_array ∷ [])) written (t ∷ []) array_at
+  element_first : Enters models (made ++ (supers ++ one_array ∷ [])) written (t ∷ []) array_at
       (pending_defined waiting 0 Super sections Array None)
-      → PlacedStatement spots (made ++ (supers ++ one_array ∷ one_element ∷ [])) written own
+      → PlacedStatement models (made ++ (supers ++ one_array ∷ one_element ∷ [])) written own
       (state_after bytes (token_between kinds.ElementHeader whole rest ∷ []) waiting)
   element_first (enters now j e s p g) =
       let place : one_element.place ≡ at p.0.place (index (length p.0.elements)) =
@@ -253,11 +253,11 @@ module _ (bytes : List ℕ) (spots : List ModelNode) (t : ℕ) (made : List Asse
       (λ clear. c (clear_front (made ++ (supers ++ one_array ∷ [])) (one_element ∷ [])
       (subst IsClear (sym all_made) clear)))
 
-  pub element_stated : PlacedStatement spots (made ++ (supers ++ one_array ∷ one_element ∷ [])) written own
+  pub element_stated : PlacedStatement models (made ++ (supers ++ one_array ∷ one_element ∷ [])) written own
       (state_after bytes (token_between kinds.ElementHeader whole rest ∷ []) waiting)
   element_stated =
-      element_first (settled_enters spots (t ∷ []) 0 (name k.first) (key_names k) Super sections Array None
+      element_first (settled_enters models (t ∷ []) 0 (name k.first) (key_names k) Super sections Array None
       (made ++ (supers ++ one_array ∷ [])) written array_at
-      (header_lands spots 0 [] (name k.first)
+      (header_lands models 0 [] (name k.first)
       (key_names k) made own own array_kind made written st st.tree.root even
       (λ r. arrays_alone made r st.clear.apart) refl (λ e. absurd cc)))

@@ -23,7 +23,7 @@ use Rattle.edit_syntax.specs.SyntaxTokens.{token_between}
 use Rattle.edit_tree.proofs.Ends.{Ends}
 use Rattle.edit_tree.proofs.MoreAssertions.{IsClear, clear_front}
 use Rattle.edit_tree.proofs.Trees.{Grows, grows_then}
-use Rattle.edit_document.proofs.AssertedSpots.{Stands, nothing_under}
+use Rattle.edit_document.proofs.AssertedModels.{Stands, nothing_under}
 use Rattle.edit_tree.proofs.PlainValues.{HasLeaf}
 use Rattle.edit_tree.proofs.Parts.{kind_append}
 use Rattle.edit_tree.proofs.Walks.{walked_one, walked_first, walked_stops, walked_append}
@@ -74,7 +74,7 @@ false_step bytes rest st = refl
 -- place of the
 -- value, and what is asserted there for a value
 pub record Before : Type 0 where
-  pub spots : List ModelNode
+  pub models : List ModelNode
   pub made : List Assertion
   pub written : List Placed
   pub tables : List ℕ
@@ -84,12 +84,12 @@ pub record Before : Type 0 where
 
 pub record IsBefore (b : Before) : Type 0 where
   pub enters_at : (v : Value) (span : Span)
-      → Enters b.spots (b.made ++ b.keyed v) (b.written ++ (b.place, span) ∷ []) b.tables b.place
+      → Enters b.models (b.made ++ b.keyed v) (b.written ++ (b.place, span) ∷ []) b.tables b.place
       (value_added_at b.waiting (shape_of_value v) (Some span))
   pub vacant_at : (v : Value) → IsClear (b.made ++ b.keyed v) → kind_at b.made b.place ≡ None
   pub low : (v : Value) → kind_at (b.keyed v) (at b.place (index 0)) ≡ None
-  pub told : (v : Value) → HasLeaf b.place v (b.keyed v)
-  pub stands : Stands b.made b.written b.spots
+  pub has_leaf : (v : Value) → HasLeaf b.place v (b.keyed v)
+  pub stands : Stands b.made b.written b.models
   pub inner : b.place ≡ [] → ⊥
   pub deep : (j : ℕ) → is_dotted_within (length (b.tables ++ j ∷ [])) Dotted ≡ true
 
@@ -106,7 +106,7 @@ unwritten_at b v h clear = go (span_at b.written b.place) refl
 pub bare_at : (b : Before) (v : Value) → IsBefore b → IsClear (b.made ++ b.keyed v)
     → kind_at (b.made ++ b.keyed v) (at b.place (index 0)) ≡ None
 bare_at b v h clear = kind_append b.made (b.keyed v) (at b.place (index 0))
-    (nothing_under b.made b.written b.spots b.place (index 0) h.stands h.inner (h.vacant_at v clear)) ∙
+    (nothing_under b.made b.written b.models b.place (index 0) h.stands h.inner (h.vacant_at v clear)) ∙
     h.low v
 
 -- what the value asserts
@@ -117,18 +117,18 @@ abbrev pub written_by : Before → Value → List ℕ → List Placed
 written_by b v rest = b.written ++ spans (placed_value b.place v rest ∷ inside b.place v rest)
 
 abbrev pub LeadsBy : Before → Value → List ℕ → Option State → Type 0
-LeadsBy b v rest r = Leads b.spots (made_by b v) (written_by b v rest) b.tables r
+LeadsBy b v rest r = Leads b.models (made_by b v) (written_by b v rest) b.tables r
 
 pub scalar_leads : (bytes : List ℕ) (mk : SyntaxToken) (b : Before) (v : Value) (rest : List ℕ)
     → IsStep bytes mk (shape_of_value v) (span_of v rest) → of_value b.place v ≡ []
     → inside b.place v rest ≡ [] → IsBefore b → LeadsBy b v rest (state_after bytes (mk ∷ []) b.waiting)
 scalar_leads bytes mk b v rest act none empty h =
-    subst (λ (xs : List Assertion). Leads b.spots (b.made ++ (b.keyed v ++ xs))
+    subst (λ (xs : List Assertion). Leads b.models (b.made ++ (b.keyed v ++ xs))
     (b.written ++ spans (placed_value b.place v rest ∷ inside b.place v rest)) b.tables
     (state_after bytes (mk ∷ []) b.waiting)) (sym none)
-    (subst (λ (ws : List PlacedValue). Leads b.spots (b.made ++ (b.keyed v ++ []))
+    (subst (λ (ws : List PlacedValue). Leads b.models (b.made ++ (b.keyed v ++ []))
     (b.written ++ spans (placed_value b.place v rest ∷ ws)) b.tables (state_after bytes (mk ∷ []) b.waiting)) (sym empty)
-    (subst (λ (xs : List Assertion). Leads b.spots (b.made ++ xs)
+    (subst (λ (xs : List Assertion). Leads b.models (b.made ++ xs)
     (b.written ++ (b.place, span_of v rest) ∷ []) b.tables (state_after bytes (mk ∷ []) b.waiting))
     (sym (append-nil (b.keyed v)))
     (go (h.enters_at v (span_of v rest)))))
@@ -137,9 +137,9 @@ scalar_leads bytes mk b v rest act none empty h =
         ≡ (value_added_at b.waiting (shape_of_value v) (Some (span_of v rest)) >>= λ r. Some r.0)
     path = walked_one bytes mk b.waiting ∙ act b.waiting
 
-    go : Enters b.spots (b.made ++ b.keyed v) (b.written ++ (b.place, span_of v rest) ∷ []) b.tables b.place
+    go : Enters b.models (b.made ++ b.keyed v) (b.written ++ (b.place, span_of v rest) ∷ []) b.tables b.place
         (value_added_at b.waiting (shape_of_value v) (Some (span_of v rest)))
-        → Leads b.spots (b.made ++ b.keyed v) (b.written ++ (b.place, span_of v rest) ∷ []) b.tables
+        → Leads b.models (b.made ++ b.keyed v) (b.written ++ (b.place, span_of v rest) ∷ []) b.tables
         (state_after bytes (mk ∷ []) b.waiting)
     go (enters now j e s p g) = leads now (path ∙ ap (λ (o : Option (State × ℕ)). o >>= λ r. Some r.0) e) s g
     go (bars e c) = stops (path ∙ ap (λ (o : Option (State × ℕ)). o >>= λ r. Some r.0) e) c
@@ -176,12 +176,12 @@ deeper base t j =
     grind (arith, nat_tests)
 
 -- a value that holds others: its first mark opens it, its last mark ends it
-module _ (bytes : List ℕ) (v : Value) (rest behind : List ℕ) (first_mark last_mark : SyntaxToken) (marks : List SyntaxToken)
+module _ (bytes : List ℕ) (v : Value) (rest behind : List ℕ) (first_token last_token : SyntaxToken) (tokens : List SyntaxToken)
     (b : Before) (h : IsBefore b)
     (opens : (st : State)
-    → step bytes first_mark st ≡ value_opened st (shape_of_value v)
+    → step bytes first_token st ≡ value_opened st (shape_of_value v)
     (Some (record { from = length (value v rest); to = length behind })))
-    (ends_here : (st : State) → step bytes last_mark st ≡ value_closed st (length rest)) where
+    (ends_here : (st : State) → step bytes last_token st ≡ value_closed st (length rest)) where
   abbrev first_span : Span
   first_span = record { from = length (value v rest); to = length behind }
 
@@ -201,59 +201,59 @@ module _ (bytes : List ℕ) (v : Value) (rest behind : List ℕ) (first_mark las
   closing : (now : List ModelNode) (j : ℕ)
       → Stands (b.made ++ b.keyed v)
       (b.written ++ (b.place, record { from = length (value v rest); to = length behind }) ∷ []) now
-      → StandsAt now j b.place → Grows b.spots now
+      → StandsAt now j b.place → Grows b.models now
       → Leads now (keyed_made ++ inner) ((b.written ++ (b.place, first_span) ∷ []) ++ inner_spans)
-      (b.tables ++ j ∷ []) (state_after bytes marks (without_pending now (b.tables ++ j ∷ [])))
-      → LeadsBy b v rest (state_after bytes (marks ++ last_mark ∷ []) (without_pending now (b.tables ++ j ∷ [])))
+      (b.tables ++ j ∷ []) (state_after bytes tokens (without_pending now (b.tables ++ j ∷ [])))
+      → LeadsBy b v rest (state_after bytes (tokens ++ last_token ∷ []) (without_pending now (b.tables ++ j ∷ [])))
   closing now j st_open there grows (leads later e st g2) =
       let none = unwritten_at b v h st_open.clear in
       let st2 : Stands (keyed_made ++ inner) (b.written ++ (b.place, first_span) ∷ inner_spans) later =
       subst (λ (w : List Placed). Stands (keyed_made ++ inner) w later)
       (append_assoc b.written ((b.place, first_span) ∷ []) inner_spans) st in
-      let done = closed_leads b.spots later (keyed_made ++ inner) b.written inner_spans b.place first_span
-      b.tables j (length rest) st2 none (g2 j b.place there) (grows_then b.spots now later grows g2) in
-      let path : state_after bytes (marks ++ last_mark ∷ []) (without_pending now (b.tables ++ j ∷ []))
+      let done = closed_leads b.models later (keyed_made ++ inner) b.written inner_spans b.place first_span
+      b.tables j (length rest) st2 none (g2 j b.place there) (grows_then b.models now later grows g2) in
+      let path : state_after bytes (tokens ++ last_token ∷ []) (without_pending now (b.tables ++ j ∷ []))
       ≡ value_closed (without_pending later (b.tables ++ j ∷ [])) (length rest) =
-      walked_append bytes marks (last_mark ∷ []) (without_pending now (b.tables ++ j ∷ []))
-      ∙ ap (λ (o : Option State). o >>= state_after bytes (last_mark ∷ [])) e ∙
-      walked_one bytes last_mark (without_pending later (b.tables ++ j ∷ [])) ∙
+      walked_append bytes tokens (last_token ∷ []) (without_pending now (b.tables ++ j ∷ []))
+      ∙ ap (λ (o : Option State). o >>= state_after bytes (last_token ∷ [])) e ∙
+      walked_one bytes last_token (without_pending later (b.tables ++ j ∷ [])) ∙
       ends_here (without_pending later (b.tables ++ j ∷ [])) in
-      subst (λ (xs : List Assertion). Leads b.spots xs
+      subst (λ (xs : List Assertion). Leads b.models xs
       (b.written ++ spans (placed_value b.place v rest ∷ inside b.place v rest)) b.tables
-      (state_after bytes (marks ++ last_mark ∷ []) (without_pending now (b.tables ++ j ∷ [])))) all_made
+      (state_after bytes (tokens ++ last_token ∷ []) (without_pending now (b.tables ++ j ∷ [])))) all_made
       (leads_along path done)
   closing now j st_open there grows (stops e clash) =
       stops
-      (walked_append bytes marks (last_mark ∷ []) (without_pending now (b.tables ++ j ∷ [])) ∙
-      ap (λ (o : Option State). o >>= state_after bytes (last_mark ∷ [])) e)
+      (walked_append bytes tokens (last_token ∷ []) (without_pending now (b.tables ++ j ∷ [])) ∙
+      ap (λ (o : Option State). o >>= state_after bytes (last_token ∷ [])) e)
       (λ clear. clash (subst IsClear (sym all_made) clear))
 
   pub holder_leads : ((now : List ModelNode) (j : ℕ)
       → Stands (b.made ++ b.keyed v)
       (b.written ++ (b.place, record { from = length (value v rest); to = length behind }) ∷ []) now
-      → StandsAt now j b.place → Grows b.spots now
+      → StandsAt now j b.place → Grows b.models now
       → Leads now ((b.made ++ b.keyed v) ++ of_value b.place v)
       ((b.written ++ (b.place, record { from = length (value v rest); to = length behind }) ∷ []) ++ spans
       (inside b.place v rest)) (b.tables ++ j ∷ [])
-      (state_after bytes marks (without_pending now (b.tables ++ j ∷ []))))
-      → LeadsBy b v rest (state_after bytes (first_mark ∷ (marks ++ last_mark ∷ [])) b.waiting)
+      (state_after bytes tokens (without_pending now (b.tables ++ j ∷ []))))
+      → LeadsBy b v rest (state_after bytes (first_token ∷ (tokens ++ last_token ∷ [])) b.waiting)
   holder_leads into = go (h.enters_at v first_span)
     where
-      go : Enters b.spots (b.made ++ b.keyed v)
+      go : Enters b.models (b.made ++ b.keyed v)
           (b.written ++ (b.place, record { from = length (value v rest); to = length behind }) ∷ []) b.tables
           b.place (value_added_at b.waiting (shape_of_value v)
           (Some (record { from = length (value v rest); to = length behind })))
-          → LeadsBy b v rest (state_after bytes (first_mark ∷ (marks ++ last_mark ∷ [])) b.waiting)
+          → LeadsBy b v rest (state_after bytes (first_token ∷ (tokens ++ last_token ∷ [])) b.waiting)
       go (enters now j e st there grows) =
-          let first : step bytes first_mark b.waiting ≡ Some (without_pending now (b.tables ++ j ∷ [])) =
+          let first : step bytes first_token b.waiting ≡ Some (without_pending now (b.tables ++ j ∷ [])) =
           opens b.waiting ∙ ap
           (λ (o : Option (State × ℕ)). o >>= λ r. Some (record r.0 { tables = r.0.tables ++ r.1 ∷ [] })) e in
-          leads_along (walked_first bytes first_mark (marks ++ last_mark ∷ []) b.waiting
+          leads_along (walked_first bytes first_token (tokens ++ last_token ∷ []) b.waiting
           (without_pending now (b.tables ++ j ∷ [])) first)
           (closing now j st there grows (into now j st there grows))
       go (bars e clash) =
           stops
-          (walked_stops bytes first_mark (marks ++ last_mark ∷ []) b.waiting
+          (walked_stops bytes first_token (tokens ++ last_token ∷ []) b.waiting
           (opens b.waiting ∙ ap
           (λ (o : Option (State × ℕ)). o >>= λ r. Some (record r.0 { tables = r.0.tables ++ r.1 ∷ [] })) e))
           (λ clear. clash (clear_front keyed_made inner (subst IsClear (sym all_made) clear)))

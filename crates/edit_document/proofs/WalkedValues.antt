@@ -17,7 +17,7 @@ use Rattle.edit_tree.specs.Walk.{without_pending, is_dotted_within, state_after}
 use Rattle.edit_syntax.specs.SyntaxTokens.{token_between, tokens_of_key, tokens_of_value, tokens_of_elements, tokens_of_members}
 use Rattle.edit_tree.proofs.Ends.{Ends, ends_one, ends_pair, ends_gap, ends_value}
 use Rattle.edit_tree.proofs.Trees.{grows_same}
-use Rattle.edit_document.proofs.AssertedSpots.{Stands}
+use Rattle.edit_document.proofs.AssertedModels.{Stands}
 use Rattle.edit_tree.proofs.Walks.{walked_none}
 use Rattle.edit_tree.proofs.WalkedTokens.{walked_key}
 use Rattle.edit_document.proofs.NumberTokens.{number_step}
@@ -30,15 +30,15 @@ use Rattle.edit_document.proofs.BeforeValues.{pair_before, pair_is_before, eleme
 
 -- before the value of a key in an inline table
 abbrev member_before : List ModelNode → List Assertion → List Placed → List ℕ → ℕ → Place → Key → Before
-member_before spots made written base t p k = pair_before spots made written base t p true (name k.first)
+member_before models made written base t p k = pair_before models made written base t p true (name k.first)
     (map (λ (d : DottedPart). name d.part) k.others)
 
-member_is_before : (spots : List ModelNode) (made : List Assertion) (written : List Placed) (base : List ℕ) (t : ℕ)
-    (p : Place) (k : Key) → Stands made written spots → StandsAt spots t p
+member_is_before : (models : List ModelNode) (made : List Assertion) (written : List Placed) (base : List ℕ) (t : ℕ)
+    (p : Place) (k : Key) → Stands made written models → StandsAt models t p
     → is_dotted_within (length (base ++ t ∷ [])) Dotted ≡ true
-    → IsBefore (member_before spots made written base t p k)
-member_is_before spots made written base t p k st there deep =
-    pair_is_before spots made written base t p true (name k.first)
+    → IsBefore (member_before models made written base t p k)
+member_is_before models made written base t p k st there deep =
+    pair_is_before models made written base t p true (name k.first)
     (map (λ (d : DottedPart). name d.part) k.others) st there deep
 
 mutual
@@ -110,37 +110,37 @@ mutual
       (b.made ++ b.keyed (inline g ms)) (b.written ++ (b.place, open_span) ∷ []) b.tables j b.place h.1 u
       in_braces st there (at_value.deep j))
 
-  pub elements_lead : (bytes : List ℕ) (es : Elements) (rest : List ℕ) (spots : List ModelNode)
+  pub elements_lead : (bytes : List ℕ) (es : Elements) (rest : List ℕ) (models : List ModelNode)
       (made : List Assertion) (written : List Placed) (base : List ℕ) (t : ℕ) (p : Place) (i total : ℕ)
       → AreElements es → IsUtf8 bytes → Ends bytes (elements es rest)
-      → Stands made written spots → IsArrayAt spots made t p i total → i + count_elements es ≡ total
-      → Leads spots (made ++ of_elements p i es) (written ++ spans (in_elements p i es rest)) (base ++ t ∷ [])
-      (state_after bytes (tokens_of_elements es rest) (without_pending spots (base ++ t ∷ [])))
-  elements_lead bytes no_elements rest spots made written base t p i total h u ends st a count =
-      leads spots (walked_none bytes (without_pending spots (base ++ t ∷ [])))
-      (subst (λ (xs : List Assertion). Stands xs (written ++ []) spots) (sym (append-nil made))
-      (subst (λ (w : List Placed). Stands made w spots) (sym (append-nil written)) st)) (grows_same spots)
-  elements_lead bytes (last_element v g) rest spots made written base t p i total h u ends st a count =
-      value_leads bytes v (gap g rest) (element_before spots made written base t p i) h.0 u ends
-      (element_is_before spots made written base t p i total st a (omega arith))
-  elements_lead bytes (element v g h2 es) rest spots made written base t p i total h u ends st a count =
+      → Stands made written models → IsArrayAt models made t p i total → i + count_elements es ≡ total
+      → Leads models (made ++ of_elements p i es) (written ++ spans (in_elements p i es rest)) (base ++ t ∷ [])
+      (state_after bytes (tokens_of_elements es rest) (without_pending models (base ++ t ∷ [])))
+  elements_lead bytes no_elements rest models made written base t p i total h u ends st a count =
+      leads models (walked_none bytes (without_pending models (base ++ t ∷ [])))
+      (subst (λ (xs : List Assertion). Stands xs (written ++ []) models) (sym (append-nil made))
+      (subst (λ (w : List Placed). Stands made w models) (sym (append-nil written)) st)) (grows_same models)
+  elements_lead bytes (last_element v g) rest models made written base t p i total h u ends st a count =
+      value_leads bytes v (gap g rest) (element_before models made written base t p i) h.0 u ends
+      (element_is_before models made written base t p i total st a (omega arith))
+  elements_lead bytes (element v g h2 es) rest models made written base t p i total h u ends st a count =
       let after = gap g (comma ∷ gap h2 (elements es rest)) in
-      let before = element_before spots made written base t p i in
+      let before = element_before models made written base t p i in
       let one = placed_value (at p (index i)) v after ∷ inside (at p (index i)) v after in
       let asserted_one = asserts (at p (index i)) (at p (index i)) (leaf v) ∷ of_value (at p (index i)) v in
       let more_ends : Ends bytes (elements es rest) = ends_gap bytes h2 (elements es rest)
       (ends_one bytes comma (gap h2 (elements es rest))
       (ends_gap bytes g (comma ∷ gap h2 (elements es rest)) (ends_value bytes v after ends))) in
-      let first : Leads spots (made ++ asserted_one) (written ++ spans one) (base ++ t ∷ [])
-      (state_after bytes (tokens_of_value v after) (without_pending spots (base ++ t ∷ []))) =
+      let first : Leads models (made ++ asserted_one) (written ++ spans one) (base ++ t ∷ [])
+      (state_after bytes (tokens_of_value v after) (without_pending models (base ++ t ∷ []))) =
       value_leads bytes v after before h.0 u ends
-      (element_is_before spots made written base t p i total st a (omega arith)) in
+      (element_is_before models made written base t p i total st a (omega arith)) in
       let all = leads_then bytes (tokens_of_value v after) (tokens_of_elements es rest)
-      (without_pending spots (base ++ t ∷ [])) spots (made ++ asserted_one) (of_elements p (suc i) es)
+      (without_pending models (base ++ t ∷ [])) models (made ++ asserted_one) (of_elements p (suc i) es)
       (written ++ spans one) (spans (in_elements p (suc i) es rest)) (base ++ t ∷ []) (base ++ t ∷ []) first
       (λ now st2 grows. elements_lead bytes es rest now (made ++ asserted_one) (written ++ spans one) base t p
       (suc i) total h.3 u more_ends st2
-      (array_more spots now made written (written ++ spans one) t p i total v st a st2 grows)
+      (array_more models now made written (written ++ spans one) t p i total v st a st2 grows)
       (let c = count in omega arith)) in
       let same_made : (made ++ asserted_one) ++ of_elements p (suc i) es
       ≡ made ++ (asserted_one ++ of_elements p (suc i) es) =
@@ -149,49 +149,49 @@ mutual
       ≡ written ++ spans (one ++ in_elements p (suc i) es rest) =
       append_assoc written (spans one) (spans (in_elements p (suc i) es rest)) ∙
       ap (λ (w : List Placed). written ++ w) (sym (map-append placed one (in_elements p (suc i) es rest))) in
-      subst (λ (xs : List Assertion). Leads spots xs (written ++ spans (one ++ in_elements p (suc i) es rest))
+      subst (λ (xs : List Assertion). Leads models xs (written ++ spans (one ++ in_elements p (suc i) es rest))
       (base ++ t ∷ []) (state_after bytes (tokens_of_elements (element v g h2 es) rest)
-      (without_pending spots (base ++ t ∷ [])))) same_made
-      (subst (λ (w : List Placed). Leads spots ((made ++ asserted_one) ++ of_elements p (suc i) es) w
+      (without_pending models (base ++ t ∷ [])))) same_made
+      (subst (λ (w : List Placed). Leads models ((made ++ asserted_one) ++ of_elements p (suc i) es) w
       (base ++ t ∷ []) (state_after bytes (tokens_of_elements (element v g h2 es) rest)
-      (without_pending spots (base ++ t ∷ [])))) same_spans all)
+      (without_pending models (base ++ t ∷ [])))) same_spans all)
 
-  pub members_lead : (bytes : List ℕ) (ms : Members) (rest : List ℕ) (spots : List ModelNode)
+  pub members_lead : (bytes : List ℕ) (ms : Members) (rest : List ℕ) (models : List ModelNode)
       (made : List Assertion) (written : List Placed) (base : List ℕ) (t : ℕ) (p : Place) → AreMembers ms
       → IsUtf8 bytes → Ends bytes (members ms rest)
-      → Stands made written spots → StandsAt spots t p → is_dotted_within (length (base ++ t ∷ [])) Dotted
+      → Stands made written models → StandsAt models t p → is_dotted_within (length (base ++ t ∷ [])) Dotted
       ≡ true
-      → Leads spots (made ++ of_members p ms) (written ++ spans (in_members p ms rest)) (base ++ t ∷ [])
-      (state_after bytes (tokens_of_members ms rest) (without_pending spots (base ++ t ∷ [])))
-  members_lead bytes no_members rest spots made written base t p h u ends st there deep =
-      leads spots (walked_none bytes (without_pending spots (base ++ t ∷ [])))
-      (subst (λ (xs : List Assertion). Stands xs (written ++ []) spots) (sym (append-nil made))
-      (subst (λ (w : List Placed). Stands made w spots) (sym (append-nil written)) st)) (grows_same spots)
-  members_lead bytes (last_member k a b v c) rest spots made written base t p h u ends st there deep =
+      → Leads models (made ++ of_members p ms) (written ++ spans (in_members p ms rest)) (base ++ t ∷ [])
+      (state_after bytes (tokens_of_members ms rest) (without_pending models (base ++ t ∷ [])))
+  members_lead bytes no_members rest models made written base t p h u ends st there deep =
+      leads models (walked_none bytes (without_pending models (base ++ t ∷ [])))
+      (subst (λ (xs : List Assertion). Stands xs (written ++ []) models) (sym (append-nil made))
+      (subst (λ (w : List Placed). Stands made w models) (sym (append-nil written)) st)) (grows_same models)
+  members_lead bytes (last_member k a b v c) rest models made written base t p h u ends st there deep =
       let after = gap c rest in
       leads_along (walked_key bytes k (a ++ (equals ∷ (b ++ value v after))) (tokens_of_value v after)
-      (without_pending spots (base ++ t ∷ [])) h.0 u ends)
-      (value_leads bytes v after (member_before spots made written base t p k) h.3 u
+      (without_pending models (base ++ t ∷ [])) h.0 u ends)
+      (value_leads bytes v after (member_before models made written base t p k) h.3 u
       (ends_pair bytes k a b (value v after) ends)
-      (member_is_before spots made written base t p k st there deep))
-  members_lead bytes (member k a b v c d ms) rest spots made written base t p h u ends st there deep =
+      (member_is_before models made written base t p k st there deep))
+  members_lead bytes (member k a b v c d ms) rest models made written base t p h u ends st there deep =
       let after = gap c (comma ∷ gap d (members ms rest)) in
-      let before = member_before spots made written base t p k in
+      let before = member_before models made written base t p k in
       let one = placed_value (named p (names k)) v after ∷ inside (named p (names k)) v after in
       let asserted_one = of_key true (named p (names k)) p (names k) v ++ of_value (named p (names k)) v in
       let value_ends : Ends bytes (value v after) = ends_pair bytes k a b (value v after) ends in
       let more_ends : Ends bytes (members ms rest) = ends_gap bytes d (members ms rest)
       (ends_one bytes comma (gap d (members ms rest))
       (ends_gap bytes c (comma ∷ gap d (members ms rest)) (ends_value bytes v after value_ends))) in
-      let first : Leads spots (made ++ asserted_one) (written ++ spans one) (base ++ t ∷ [])
+      let first : Leads models (made ++ asserted_one) (written ++ spans one) (base ++ t ∷ [])
       (state_after bytes (tokens_of_key k (a ++ (equals ∷ (b ++ value v after))) ++ tokens_of_value v after)
-      (without_pending spots (base ++ t ∷ []))) =
+      (without_pending models (base ++ t ∷ []))) =
       leads_along (walked_key bytes k (a ++ (equals ∷ (b ++ value v after))) (tokens_of_value v after)
-      (without_pending spots (base ++ t ∷ [])) h.0 u ends)
+      (without_pending models (base ++ t ∷ [])) h.0 u ends)
       (value_leads bytes v after before h.3 u value_ends
-      (member_is_before spots made written base t p k st there deep)) in
+      (member_is_before models made written base t p k st there deep)) in
       let all = leads_then bytes (tokens_of_key k (a ++ (equals ∷ (b ++ value v after))) ++ tokens_of_value v after)
-      (tokens_of_members ms rest) (without_pending spots (base ++ t ∷ [])) spots (made ++ asserted_one)
+      (tokens_of_members ms rest) (without_pending models (base ++ t ∷ [])) models (made ++ asserted_one)
       (of_members p ms) (written ++ spans one) (spans (in_members p ms rest)) (base ++ t ∷ [])
       (base ++ t ∷ []) first
       (λ now st2 grows. members_lead bytes ms rest now (made ++ asserted_one)
@@ -202,9 +202,9 @@ mutual
       ≡ written ++ spans (one ++ in_members p ms rest) =
       append_assoc written (spans one) (spans (in_members p ms rest)) ∙
       ap (λ (w : List Placed). written ++ w) (sym (map-append placed one (in_members p ms rest))) in
-      subst (λ (xs : List Assertion). Leads spots xs (written ++ spans (one ++ in_members p ms rest))
+      subst (λ (xs : List Assertion). Leads models xs (written ++ spans (one ++ in_members p ms rest))
       (base ++ t ∷ []) (state_after bytes (tokens_of_members (member k a b v c d ms) rest)
-      (without_pending spots (base ++ t ∷ [])))) same_made
-      (subst (λ (w : List Placed). Leads spots ((made ++ asserted_one) ++ of_members p ms) w (base ++ t ∷ [])
-      (state_after bytes (tokens_of_members (member k a b v c d ms) rest) (without_pending spots (base ++ t ∷ []))))
+      (without_pending models (base ++ t ∷ [])))) same_made
+      (subst (λ (w : List Placed). Leads models ((made ++ asserted_one) ++ of_members p ms) w (base ++ t ∷ [])
+      (state_after bytes (tokens_of_members (member k a b v c d ms) rest) (without_pending models (base ++ t ∷ []))))
       same_spans all)

@@ -14,13 +14,13 @@ use Rattle.edit_tree.specs.DocumentViews.{DocumentViews, tree_of, node_at}
 use Rattle.edit_document.specs.Compared.{nth_part, AreSteps, AreNames, AreKeys, IsWhole}
 use Rattle.edit_tree.proofs.SamePlace.{not_root, last_same}
 use Rattle.edit_syntax.proofs.ListElements.{slice_get_same}
-use Rattle.edit_document.proofs.Views.{view_of_spot, Opened, opened, Found, view_spot, tree_spot, node_none}
+use Rattle.edit_document.proofs.Views.{view_of_model, Opened, opened, Found, view_model, tree_model, node_none}
 use Rattle.edit_tree.specs.declared.nodes.Node.{Node}
 use Rattle.edit_document.specs.DocumentLayout.{document_view_of}
 use Rattle.edit_tree.proofs.MoreAssertions.{first_kind}
 use Rattle.edit_tree.specs.Assertions.{AreCompatible}
 use Rattle.edit_tree.proofs.Keyed.{tabular, AreUnder, under_tables, first_table, found_under}
-use Rattle.edit_document.proofs.AssertedSpots.{Stands, Lists, shape_of_kind, was_asserted, short_at}
+use Rattle.edit_document.proofs.AssertedModels.{Stands, Lists, shape_of_kind, was_asserted, short_at}
 use Rattle.edit_document.proofs.Wholes.{stands_of, name_at, element_is, keys_below, named_below, numbered_below}
 
 -- ---- what stands below a spot is numbered
@@ -73,35 +73,35 @@ lists_shape super i h = absurd h
 lists_shape header_kind i h = absurd h
 lists_shape element_kind i h = absurd h
 
-below_listed : (spots : List ModelNode) (tree : IsTree spots) (n : ℕ) (s : ModelNode) (x : Step)
-    → slice_get spots n ≡ Some s → (j : ℕ) (t : ModelNode) → slice_get spots j ≡ Some t
+below_listed : (models : List ModelNode) (tree : IsTree models) (n : ℕ) (s : ModelNode) (x : Step)
+    → slice_get models n ≡ Some s → (j : ℕ) (t : ModelNode) → slice_get models j ≡ Some t
     → t.place ≡ at s.place x
     → (m : ℕ) × (below s x ≡ Some m)
-below_listed spots tree n s x here j t there p =
+below_listed models tree n s x here j t there p =
     elim (tree.up j t there) [
       | inl root ↦ absurd (not_root s.place x (sym p ∙ root))
       | inr m ↦
           let same = last_same m.upper.place s.place m.step x (sym m.place_is ∙ p) in
           let number : m.above ≡ n = tree.unique m.above n m.upper s m.stands here same.0 in
-          let spot : m.upper ≡ s = slice_get_same spots n m.upper s (ap (slice_get spots) (sym number) ∙
+          let model : m.upper ≡ s = slice_get_same models n m.upper s (ap (slice_get models) (sym number) ∙
           m.stands) here in
-          (j, ap (λ (u : ModelNode). below u x) (sym spot) ∙ ap (below m.upper) (sym same.1) ∙ m.listed)
+          (j, ap (λ (u : ModelNode). below u x) (sym model) ∙ ap (below m.upper) (sym same.1) ∙ m.listed)
     ]
 
 -- a shape in place of a spot's own
 in_shape : (s : ModelNode) (a : Shape) (i : ℕ) (step : Step) → s.shape ≡ a
     → nth_part (view_of_shape a (names_of s) (length s.elements)) i ≡ Some step
-    → nth_part (view_of_spot s) i ≡ Some step
+    → nth_part (view_of_model s) i ≡ Some step
 in_shape s a i step e h =
     ap (λ (x : Shape). nth_part (view_of_shape x (names_of s) (length s.elements)) i) e ∙ h
 
-pub unnumbered : (made : List Assertion) (written : List Placed) (spots : List ModelNode) (n : ℕ) (s : ModelNode)
-    (step : Step) → AreUnder made made → Stands made written spots → slice_get spots n ≡ Some s
-    → ((i : ℕ) → nth_part (view_of_spot s) i ≡ Some step → ⊥)
-    → (j : ℕ) (t : ModelNode) → slice_get spots j ≡ Some t → t.place ≡ at s.place step → ⊥
-unnumbered made written spots n s (index i) under st here none j t there p =
+pub unnumbered : (made : List Assertion) (written : List Placed) (models : List ModelNode) (n : ℕ) (s : ModelNode)
+    (step : Step) → AreUnder made made → Stands made written models → slice_get models n ≡ Some s
+    → ((i : ℕ) → nth_part (view_of_model s) i ≡ Some step → ⊥)
+    → (j : ℕ) (t : ModelNode) → slice_get models j ≡ Some t → t.place ≡ at s.place step → ⊥
+unnumbered made written models n s (index i) under st here none j t there p =
     let k = st.tells n s here in
-    let b = below_listed spots st.tree n s (index i) here j t there p in
+    let b = below_listed models st.tree n s (index i) here j t there p in
     let l = st.indexed s.place i (st.tells j t there).kind
     (ap (kind_at made) (sym p) ∙ was_asserted (st.tells j t there)
     (λ root. not_root s.place (index i) (sym p ∙ root))) in
@@ -111,9 +111,9 @@ unnumbered made written spots n s (index i) under st here none j t there p =
       | inl e ↦ none i (in_shape s listed i (index i) (k.shape ∙ e) (element_is (length s.elements) i lt))
       | inr e ↦ none i (in_shape s sections i (index i) (k.shape ∙ e) (element_is (length s.elements) i lt))
     ]
-unnumbered made written spots n s (key name) under st here none j t there p =
+unnumbered made written models n s (key name) under st here none j t there p =
     let k = st.tells n s here in
-    let b = below_listed spots st.tree n s (key name) here j t there p in
+    let b = below_listed models st.tree n s (key name) here j t there p in
     let at_name = name_at s.members name b.0 b.1 in
     let member_defined : kind_at made (at s.place (key name)) ≡ Some (st.tells j t there).kind =
     ap (kind_at made) (sym p) ∙ was_asserted (st.tells j t there)
@@ -126,9 +126,9 @@ unnumbered made written spots n s (key name) under st here none j t there p =
     ]
 
 -- a place that stands is short
-pub short_spot : (made : List Assertion) (written : List Placed) (spots : List ModelNode) (n : ℕ) (s : ModelNode)
-    → Stands made written spots → slice_get spots n ≡ Some s → length s.place ≤ 80
-short_spot made written spots n s st here = go s.place refl
+pub short_model : (made : List Assertion) (written : List Placed) (models : List ModelNode) (n : ℕ) (s : ModelNode)
+    → Stands made written models → slice_get models n ≡ Some s → length s.place ≤ 80
+short_model made written models n s st here = go s.place refl
   where
     go : (p : Place) → s.place ≡ p → length s.place ≤ 80
     go [] e = subst (λ (q : Place). length q ≤ 80) (sym e) (omega arith)
@@ -138,37 +138,37 @@ short_spot made written spots n s st here = go s.place refl
 -- ---- what a document tells of a node
 
 whole_of : (d : DocumentViews) (nodes : List Node) (made : List Assertion) (written : List Placed) (n : ℕ)
-    (node : Node) (opens : Opened d nodes) → Found d nodes opens.spots n node → AreUnder made made
-    → Stands made written opens.spots → IsWhole d n
+    (node : Node) (opens : Opened d nodes) → Found d nodes opens.models n node → AreUnder made made
+    → Stands made written opens.models → IsWhole d n
 whole_of d nodes made written n node opens f under st = record {
   parts = λ step none.
       ap (λ (p : Place). tree_of d (at p step)) f.place
-      ∙ ap (λ (ns : List (Place × View)). node_at ns (at f.spot.place step)) opens.nodes_are
-      ∙ node_none opens.spots (at f.spot.place step)
-      (unnumbered made written opens.spots n f.spot step under st f.stands
+      ∙ ap (λ (ns : List (Place × View)). node_at ns (at f.model.place step)) opens.nodes_are
+      ∙ node_none opens.models (at f.model.place step)
+      (unnumbered made written opens.models n f.model step under st f.stands
       (λ i e. none i (ap (λ (v : View). nth_part v i) view ∙ e)));
   stands = λ step i with_index none.
-      let b = numbered_below made written opens.spots n f.spot st f.stands i step
+      let b = numbered_below made written opens.models n f.model st f.stands i step
       (sym (ap (λ (v : View). nth_part v i) view) ∙ with_index) in
-      let s = opens.tree.down n b.0.0 f.spot step f.stands b.0.1 in
-      let clash : None ≡ Some (view_of_spot s.0) = sym none ∙
+      let s = opens.tree.down n b.0.0 f.model step f.stands b.0.1 in
+      let clash : None ≡ Some (view_of_model s.0) = sym none ∙
       ap (λ (p : Place). tree_of d (at p step)) f.place ∙ ap (tree_of d) (sym s.2) ∙
-      tree_spot d opens.spots b.0.0 s.0 opens.nodes_are opens.tree s.1 in
+      tree_model d opens.models b.0.0 s.0 opens.nodes_are opens.tree s.1 in
       cc;
   steps = subst AreSteps (sym view)
-      (λ i step e. (numbered_below made written opens.spots n f.spot st f.stands i step e).1);
-  names = subst AreNames (sym view) (named_below made written opens.spots n f.spot st f.stands);
-  keys = subst AreKeys (sym view) (keys_below made written opens.spots n f.spot st f.stands);
+      (λ i step e. (numbered_below made written opens.models n f.model st f.stands i step e).1);
+  names = subst AreNames (sym view) (named_below made written opens.models n f.model st f.stands);
+  keys = subst AreKeys (sym view) (keys_below made written opens.models n f.model st f.stands);
   short = subst (λ (p : Place). length p ≤ 80) (sym f.place)
-      (short_spot made written opens.spots n f.spot st f.stands);
+      (short_model made written opens.models n f.model st f.stands);
 }
   where
-    view : node_view d n ≡ view_of_spot f.spot
-    view = view_spot d opens.spots n f.spot opens.nodes_are opens.tree f.stands
+    view : node_view d n ≡ view_of_model f.model
+    view = view_model d opens.models n f.model opens.nodes_are opens.tree f.stands
 
 pub whole : (inside : Inside) (d : DocumentViews) (n : ℕ) (node : Node) (read : IsRead inside)
     (view : document_view_of inside ≡ d) → IsUtf8 (string_bytes inside.text)
-    → Found d inside.nodes.items (opened inside d read view).spots n node → IsWhole d n
+    → Found d inside.nodes.items (opened inside d read view).models n node → IsWhole d n
 unfolding opened
 whole inside d n node read view u f = whole_of d inside.nodes.items (assertions read.form)
     (map placed (values read.form)) n node (opened inside d read view) f (under_tables read.form)

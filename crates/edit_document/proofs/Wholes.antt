@@ -18,16 +18,16 @@ use Rattle.edit_document.specs.DocumentLayout.{placed, Placed, model_nodes_of, I
 use Rattle.edit_tree.specs.Nodes.{Shape, scalar, listed, inline as inlined, section, sections, ModelNode, names_of, view_of_shape, below}
 use Rattle.edit_document.specs.Items.{names_in, key_names}
 use Rattle.edit_document.specs.Compared.{element_step, nth_part, AreNames, AreKeys}
-use Rattle.edit_document.proofs.Views.{view_of_spot}
+use Rattle.edit_document.proofs.Views.{view_of_model}
 use Rattle.edit_document.proofs.MemberViews.{names_keys}
 use Rattle.edit_tree.proofs.Shallow.{manifest_form}
-use Rattle.edit_document.proofs.AssertedSpots.{Stands, shape_of_kind}
+use Rattle.edit_document.proofs.AssertedModels.{Stands, shape_of_kind}
 use Rattle.edit_document.proofs.WalkedLines.{Walked as Walks, ended, stuck}
 use Rattle.edit_document.proofs.Documents.{read_of, walk_of}
 
 -- the spots of a document that was read stand for its assertions
 pub stands_of : (inside : Inside) → (read : IsRead inside) → IsUtf8 (string_bytes inside.text)
-    → Stands (assertions read.form) (map placed (values read.form)) read.spots
+    → Stands (assertions read.form) (map placed (values read.form)) read.models
 stands_of inside read u = go (walk_of bytes form (read_of bytes form read.manifest u))
   where
     bytes : List ℕ
@@ -37,13 +37,13 @@ stands_of inside read u = go (walk_of bytes form (read_of bytes form read.manife
     form = read.form
 
     go : Walks (assertions form) (map placed (values form)) (state_after bytes (tokens_of_text form) start)
-        → Stands (assertions form) (map placed (values form)) read.spots
+        → Stands (assertions form) (map placed (values form)) read.models
     go (ended now tables e st) =
         let made : model_nodes_of bytes ≡ Some now =
-        ap (λ (o : Option Text). o >>= λ f. state_after bytes (tokens_of_text f) start >>= λ s. Some s.spots)
-        (manifest_form bytes form read.manifest) ∙ ap (λ (o : Option State). o >>= λ s. Some s.spots) e in
+        ap (λ (o : Option Text). o >>= λ f. state_after bytes (tokens_of_text f) start >>= λ s. Some s.models)
+        (manifest_form bytes form read.manifest) ∙ ap (λ (o : Option State). o >>= λ s. Some s.models) e in
         subst (λ (ss : List ModelNode). Stands (assertions form) (map placed (values form)) ss)
-        (same_Some now read.spots (sym made ∙ read.found)) st
+        (same_Some now read.models (sym made ∙ read.found)) st
     go (stuck e clash) =
         absurd (clash (record {
           apart = read.manifest.no_clash;
@@ -183,18 +183,18 @@ keys_of_shape s sections bare = tt
 keys_of_shape s inlined bare = ap (map key) (sym (names_keys (names_of s)))
 keys_of_shape s section bare = ap (map key) (sym (names_keys (names_of s)))
 
-pub keys_below : (made : List Assertion) (written : List Placed) (spots : List ModelNode) (n : ℕ) (s : ModelNode)
-    → Stands made written spots → slice_get spots n ≡ Some s → AreKeys (view_of_spot s)
-keys_below made written spots n s st here = let t = st.tells n s here in
+pub keys_below : (made : List Assertion) (written : List Placed) (models : List ModelNode) (n : ℕ) (s : ModelNode)
+    → Stands made written models → slice_get models n ≡ Some s → AreKeys (view_of_model s)
+keys_below made written models n s st here = let t = st.tells n s here in
     keys_of_shape s s.shape (λ v e. scalar_bare t.kind v (sym t.shape ∙ e))
 
-pub named_below : (made : List Assertion) (written : List Placed) (spots : List ModelNode) (n : ℕ) (s : ModelNode)
-    → Stands made written spots → slice_get spots n ≡ Some s → AreNames (view_of_spot s)
-named_below made written spots n s st here = let t = st.tells n s here in
+pub named_below : (made : List Assertion) (written : List Placed) (models : List ModelNode) (n : ℕ) (s : ModelNode)
+    → Stands made written models → slice_get models n ≡ Some s → AreNames (view_of_model s)
+named_below made written models n s st here = let t = st.tells n s here in
     names_of_shape s s.shape (λ v e. scalar_bare t.kind v (sym t.shape ∙ e))
 
 -- what a view numbers stands below its spot
-pub numbered_below : (made : List Assertion) (written : List Placed) (spots : List ModelNode) (n : ℕ) (s : ModelNode)
-    → Stands made written spots → slice_get spots n ≡ Some s → Parts s s.shape
-numbered_below made written spots n s st here = let t = st.tells n s here in
+pub numbered_below : (made : List Assertion) (written : List Placed) (models : List ModelNode) (n : ℕ) (s : ModelNode)
+    → Stands made written models → slice_get models n ≡ Some s → Parts s s.shape
+numbered_below made written models n s st here = let t = st.tells n s here in
     parts_of s s.shape (λ v e. scalar_bare t.kind v (sym t.shape ∙ e))

@@ -68,12 +68,12 @@ kind_of (inline_table ms) = 8
 kind_of (table ms) = 9
 
 -- the text of a string, a number, a date or a time
-abbrev pub word_of : View → Option (List ℕ)
-word_of (string said) = Some said
-word_of (whole said) = Some said
-word_of (fractional said) = Some said
-word_of (moment said) = Some said
-word_of _ = None
+abbrev pub value_text : View → Option (List ℕ)
+value_text (string said) = Some said
+value_text (whole said) = Some said
+value_text (fractional said) = Some said
+value_text (moment said) = Some said
+value_text _ = None
 
 -- the step to the element at an index, where there are so many elements
 abbrev pub element_step : ℕ → ℕ → Option Step

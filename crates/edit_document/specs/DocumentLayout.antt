@@ -55,12 +55,12 @@ span_at (w ∷ ws) place = if same_place w.0 place then Some w.1 else span_at ws
 -- the nodes that the walk over the tokens of a text builds
 abbrev pub model_nodes_of : List ℕ → Option (List ModelNode)
 model_nodes_of bytes = form_of bytes >>= λ form. state_after bytes
-    (tokens_of_text form) start >>= λ st. Some st.spots
+    (tokens_of_text form) start >>= λ st. Some st.models
 
 -- the places and views of these nodes; empty where there are none
 abbrev pub node_views : Option (List ModelNode) → List (Place × View)
 node_views None = []
-node_views (Some spots) = map model_node_view spots
+node_views (Some models) = map model_node_view models
 
 -- the view of a document from its text and the range that the last edit wrote
 unfoldable pub document_view_by : List ℕ → ℕ × ℕ → DocumentViews
@@ -74,13 +74,13 @@ document_view_of d = document_view_by (string_bytes d.text) d.written
 -- the invariant of a document: its nodes are those of its text, with the tree of its syntax tree and the
 -- spans of its values
 pub record IsRead (d : Inside) : Type 0 where
-  pub spots : List ModelNode
-  pub found : model_nodes_of (string_bytes d.text) ≡ Some spots
+  pub models : List ModelNode
+  pub found : model_nodes_of (string_bytes d.text) ≡ Some models
   pub form : Text
   pub manifest : IsDocument (string_bytes d.text) form
-  pub holds : RepresentsNodes (string_bytes d.text) d.nodes.items spots
+  pub holds : RepresentsNodes (string_bytes d.text) d.nodes.items models
   pub written : IsRange (string_bytes d.text) d.written
-  pub tree : IsTree spots
-  pub views : (place : Place) → node_at (map model_node_view spots) place ≡ view_at form place
-  pub spans : (n : ℕ) (s : ModelNode) → slice_get spots n ≡ Some s
+  pub tree : IsTree models
+  pub views : (place : Place) → node_at (map model_node_view models) place ≡ view_at form place
+  pub spans : (n : ℕ) (s : ModelNode) → slice_get models n ≡ Some s
       → s.span ≡ span_at (map placed (values form)) s.place

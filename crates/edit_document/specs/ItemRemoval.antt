@@ -47,9 +47,9 @@ IsLost form gone q = Vanishes form gone q
 
 -- True: the place stays, whatever is removed at or below its child at `t`. False: it vanishes where that
 -- child vanishes.
-abbrev pub IsKept : Text → Place → Step → Bool → Type 0
-IsKept form q t true = (r : Place) → IsLeft form (q ++ t ∷ r) q
-IsKept form q t false = (r : Place) → IsLost form (q ++ t ∷ r) (at q t) → IsLost form (q ++ t ∷ r) q
+abbrev pub IsRemaining : Text → Place → Step → Bool → Type 0
+IsRemaining form q t true = (r : Place) → IsLeft form (q ++ t ∷ r) q
+IsRemaining form q t false = (r : Place) → IsLost form (q ++ t ∷ r) (at q t) → IsLost form (q ++ t ∷ r) q
 
 -- n is the number of steps to the innermost table or array around the place that stays
 pub record IsInnermost (form : Text) (steps : List WrittenStep) (n : ℕ) : Type 0 where

@@ -24,7 +24,7 @@ is_table_value _ = false
 -- the inline table at the place begins at this offset
 pub record StartsTable (form : Text) (place : Place) (start : ℕ) : Type 0 where
   pub placed_value : PlacedValue
-  pub told : Contains (values form) placed_value
+  pub listed : Contains (values form) placed_value
   pub there : placed_value.place ≡ place
   pub between : List Between
   pub all : Members

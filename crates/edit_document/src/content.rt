@@ -1,7 +1,7 @@
 //! What kind of item a node of a document is.
 ghost use Rattle.std.specs.Prelude.{◌≡◌, ◌<◌, [], length, option_map};
 ghost use Rattle.edit_syntax.specs.Grammar.{Text};
-ghost use Rattle.edit_document.specs.Compared.{IsWhole, kind_of, word_of};
+ghost use Rattle.edit_document.specs.Compared.{IsWhole, kind_of, value_text};
 ghost use Rattle.edit_document.specs.Forms.{IfDocument};
 ghost use Rattle.edit_document.specs.Items.{node_place, node_view};
 ghost use Rattle.edit_document.specs.ItemRemoval.{is_named};
@@ -44,11 +44,11 @@ impl Document {
     /// The decoded text of a string, or a number, a date or a time as written.
     pub fn scalar_text(&self, number: usize) -> Option<&str>
         requires { number < length self.now.nodes }
-        ensures { option_map (λ s. s.now) result ≡ word_of (node_view self.now number) }
+        ensures { option_map (λ s. s.now) result ≡ value_text (node_view self.now number) }
     {
         let node = &self.nodes[number];
         match &node.content {
-            Content::Text(words) => Some(decoded_str(self.text.as_str(), words)),
+            Content::Text(decoded) => Some(decoded_str(self.text.as_str(), decoded)),
             Content::Integer(span) => Some(span_text(self.text.as_str(), *span)),
             Content::Float(span) => Some(span_text(self.text.as_str(), *span)),
             Content::DateTime(span) => Some(span_text(self.text.as_str(), *span)),

@@ -68,9 +68,9 @@ impl Document {
         ensures pieces { IfOk result (λ d. length d.pieces ≤ 1) }
         ensures error { IfErr result (IsTokenizeError (length text.now)) }
     {
-        let marks = tokenize(alloc, text.as_bytes())?;
-        let nodes = nodes_of(alloc, text, marks.as_slice())?;
-        drop(marks);
+        let tokens = tokenize(alloc, text.as_bytes())?;
+        let nodes = nodes_of(alloc, text, tokens.as_slice())?;
+        drop(tokens);
         let written = (0, text.len());
         let text = String::from_str(alloc, text)?;
         Ok(Document {
@@ -94,7 +94,7 @@ impl Document {
     {
         let node = &self.nodes[number];
         match &node.content {
-            Content::Text(words) => Datum::Text(decoded_str(self.text.as_str(), words)),
+            Content::Text(decoded) => Datum::Text(decoded_str(self.text.as_str(), decoded)),
             Content::Truth(truth) => Datum::Truth(*truth),
             Content::Integer(_) => Datum::Integer,
             Content::Float(_) => Datum::Float,

@@ -26,17 +26,17 @@ first-found f g key (x ∷ xs) =
     ∙ cond-map (λ y. (f (g y)).source) (bytes_eq key (f (g x)).key) x
     (find (λ y. bytes_eq key (f (g y)).key) xs)
 
-cond-kept : {A : Type 0} (b : Bool) (x s : A) (o p : Option A) → (o ≡ Some s → p ≡ Some s)
+cond-implies : {A : Type 0} (b : Bool) (x s : A) (o p : Option A) → (o ≡ Some s → p ≡ Some s)
     → cond b (Some x) o ≡ Some s → cond b (Some x) p ≡ Some s
-cond-kept true x s o p h e = e
-cond-kept false x s o p h e = h e
+cond-implies true x s o p h e = e
+cond-implies false x s o p h e = h e
 
 -- a definition that comes first stays first with others behind it
-pub first-kept : (key : List ℕ) (xs ys : List Definition) (s : Source) → first key xs ≡ Some s
+pub first-stays : (key : List ℕ) (xs ys : List Definition) (s : Source) → first key xs ≡ Some s
     → first key (xs ++ ys) ≡ Some s
-first-kept key [] ys s e = absurd (cc)
-first-kept key (d ∷ xs) ys s e =
-    cond-kept (bytes_eq key d.key) d.source s (first key xs) (first key (xs ++ ys)) (first-kept key xs ys s) e
+first-stays key [] ys s e = absurd (cc)
+first-stays key (d ∷ xs) ys s e =
+    cond-implies (bytes_eq key d.key) d.source s (first key xs) (first key (xs ++ ys)) (first-stays key xs ys s) e
 
 cond-passed : {A : Type 0} (b : Bool) (x : A) (o p q : Option A) → (o ≡ None → p ≡ q)
     → cond b (Some x) o ≡ None → cond b (Some x) p ≡ q
@@ -87,7 +87,7 @@ decides key configs i c b within is found =
     ap (λ ds. is_empty_definition (first key ds)) (from-here configs i c within is)
     ∙ empty-of (first key (definitions_of (configuration c)))
     (first key (definitions_of (configuration c) ++ all_definitions (drop (i + 1) configs))) b
-    (λ s e. first-kept key (definitions_of (configuration c))
+    (λ s e. first-stays key (definitions_of (configuration c))
     (all_definitions (drop (i + 1) configs)) s e) found
 
 -- what `is_none` answers
@@ -110,7 +110,7 @@ in-registries c key entry found =
     first-found registry_definition registry_entry key c.registries.items
     ∙ ap (option_map (λ r. (registry_definition (registry_entry r)).source)) found in
     ap Some (without-index entry.1)
-    ∙ sym (ap (option_map is_empty_source) (first-kept key
+    ∙ sym (ap (option_map is_empty_source) (first-stays key
     (map registry_definition (map registry_entry c.registries.items)) sources
     (registry_definition (registry_entry entry)).source here))
 

@@ -163,13 +163,13 @@ option_read [] value h = absurd (false≢true h)
 option_read (b ∷ bs) value h =
     let first = and_parts (is_letter b) (list_all is_letter bs) h in
     let solid : not (is_space b) ≡ true = letter_space b first.0 in
-    let kept : eqb b 35 ≡ false = letter_number_sign b first.0 in
+    let differs : eqb b 35 ≡ false = letter_number_sign b first.0 in
     let text : List ℕ = (b ∷ bs) ++ value_text value in
     let skipped : from_on (λ c. not (is_space c)) text ≡ text = rw solid in
     let named : option_from text ≡ Some (record {
       name = up_to is_separator text;
       value = value_in (from_on (λ c. not (is_separator c)) (from_on is_separator text));
-    }) = rw kept in
+    }) = rw differs in
     ap option_from skipped ∙ named
     ∙ ap (λ n. Some (record {
       name = n;

@@ -85,7 +85,7 @@ pub record IsPlanned (old new : Files) (plan : FetchPlan) (text : List ℕ) (cou
   pub requests : List Request
   pub said : HasLookupLines text lookups
   pub made : AreEffectiveRequests old plan lookups requests
-  pub kept : new (working_file plan.room.now (codes "lookups")) ≡ Some text
+  pub copied : new (working_file plan.room.now (codes "lookups")) ≡ Some text
   pub written : new (working_file plan.room.now (codes "curl"))
       ≡ Some (requests_text plan.settings.now plan.room.now requests)
   pub counted : count ≡ length requests

@@ -37,28 +37,28 @@ not-false : (b : Bool) → not b ≡ true → b ≡ false
 not-false true h = cc h
 not-false false h = refl
 
-filter-told : (s : Step) (ss : List Step)
+filter-differs : (s : Step) (ss : List Step)
     → AllByRecursion (λ t. same_step s t ≡ false) (filter (λ t. not (same_step s t)) ss)
-filter-told s [] = tt
-filter-told s (t ∷ ss) = elim (cases_Bool (not (same_step s t))) [
-  | inl holds ↦ rw holds (not-false (same_step s t) holds, filter-told s ss)
-  | inr fails ↦ rw fails (filter-told s ss)
+filter-differs s [] = tt
+filter-differs s (t ∷ ss) = elim (cases_Bool (not (same_step s t))) [
+  | inl holds ↦ rw holds (not-false (same_step s t) holds, filter-differs s ss)
+  | inr fails ↦ rw fails (filter-differs s ss)
 ]
 
 once-apart : (ss : List Step) → AreStepsApart (once ss)
 once-apart [] = tt
 once-apart (s ∷ ss) =
-    (filter-told s (once ss), filter-apart (λ t. not (same_step s t)) (once ss) (once-apart ss))
+    (filter-differs s (once ss), filter-apart (λ t. not (same_step s t)) (once ss) (once-apart ss))
 
-names-told : (n : List ℕ) (ss : List Step) → AllByRecursion (λ t. same_step (key n) t ≡ false) ss
+names-distinct : (n : List ℕ) (ss : List Step) → AllByRecursion (λ t. same_step (key n) t ≡ false) ss
     → AllByRecursion (λ m. same_bytes n m ≡ false) (key_names ss)
-names-told n [] h = tt
-names-told n (key m ∷ ss) h = (h.0, names-told n ss h.1)
-names-told n (index i ∷ ss) h = names-told n ss h.1
+names-distinct n [] h = tt
+names-distinct n (key m ∷ ss) h = (h.0, names-distinct n ss h.1)
+names-distinct n (index i ∷ ss) h = names-distinct n ss h.1
 
 names-apart : (ss : List Step) → AreStepsApart ss → AreNamesApart (key_names ss)
 names-apart [] h = tt
-names-apart (key n ∷ ss) h = (names-told n ss h.0, names-apart ss h.1)
+names-apart (key n ∷ ss) h = (names-distinct n ss h.0, names-apart ss h.1)
 names-apart (index i ∷ ss) h = names-apart ss h.1
 
 value-apart : (made : List Assertion) (place : Place) (v : Value)

@@ -40,26 +40,26 @@ none_more files folders here none missing =
     All-append P folders (here ∷ []) none (All-cons P here [] missing (All-nil P))
 
 -- one folder more
-pub passed_more : (tells told : Bool) (old now : Files) (start here above : List ℕ) → told ≡ tells
+pub passed_more : (tells now_tells : Bool) (old now : Files) (start here above : List ℕ) → now_tells ≡ tells
     → SameFiles old now → HasPassed tells old start here → here ≢ codes "/" → IsFolderOf here above
-    → (told ≡ true → IsMissing now (manifest_in here)) → HasPassed tells old start above
-passed_more tells told old now start here above same_told same h on up missing = record {
+    → (now_tells ≡ true → IsMissing now (manifest_in here)) → HasPassed tells old start above
+passed_more tells now_tells old now start here above same_tells same h on up missing = record {
   passed = h.passed ++ here ∷ [];
   climbs = step h.passed here above h.climbs on up;
   none = λ t. none_more old h.passed here (h.none t)
-      (as_before (λ files. IsMissing files (manifest_in here)) old now same (missing (same_told ∙ t)));
+      (as_before (λ files. IsMissing files (manifest_in here)) old now same (missing (same_tells ∙ t)));
 }
 
 -- no manifest is found, not even at the root
-pub none_above : (tells told : Bool) (old now : Files) (start here : List ℕ) → told ≡ tells
+pub none_above : (tells now_tells : Bool) (old now : Files) (start here : List ℕ) → now_tells ≡ tells
     → SameFiles old now → HasPassed tells old start here → here ≡ codes "/"
-    → (told ≡ true → IsMissing now (manifest_in here)) → tells ≡ true → HasNoneAbove old start
-none_above tells told old now start here same_told same h root missing t = record {
+    → (now_tells ≡ true → IsMissing now (manifest_in here)) → tells ≡ true → HasNoneAbove old start
+none_above tells now_tells old now start here same_tells same h root missing t = record {
   passed = h.passed;
   climbs = subst (λ folder. Climbs start h.passed folder) root h.climbs;
   none = none_more old h.passed (codes "/") (h.none t)
       (subst (λ folder. IsMissing old (manifest_in folder)) root
-      (as_before (λ files. IsMissing files (manifest_in here)) old now same (missing (same_told ∙ t))));
+      (as_before (λ files. IsMissing files (manifest_in here)) old now same (missing (same_tells ∙ t))));
 }
 
 -- the file at a path
@@ -68,24 +68,24 @@ pub path_named : (files : Files) (place at : List ℕ) → at ≡ place → HasK
 path_named files place at e stands = named (subst (λ path. HasKindAt files path File) e stands)
 
 -- the nearest manifest of the folder at a path
-pub path_nearest : (tells told : Bool) (old now : Files) (place at from found : List ℕ)
-    → at ≡ place → from ≡ place → told ≡ tells → SameFiles old now
-    → (tells ≡ true → HasKindAt old at Folder) → (told ≡ true → IsNearest now from found) → tells ≡ true
+pub path_nearest : (tells now_tells : Bool) (old now : Files) (place at from found : List ℕ)
+    → at ≡ place → from ≡ place → now_tells ≡ tells → SameFiles old now
+    → (tells ≡ true → HasKindAt old at Folder) → (now_tells ≡ true → IsNearest now from found) → tells ≡ true
     → IsManifestAt old place found
-path_nearest tells told old now place at from found e e2 same_told same stands near t =
+path_nearest tells now_tells old now place at from found e e2 same_tells same stands near t =
     nearest found (subst (λ path. HasKindAt old path Folder) e (stands t))
     (subst (λ path. IsNearest old path found) e2
-    (as_before (λ files. IsNearest files from found) old now same (near (same_told ∙ t))))
+    (as_before (λ files. IsNearest files from found) old now same (near (same_tells ∙ t))))
 
 -- no folder from the one at a path upwards has a manifest
-pub none_found : (tells told : Bool) (old now : Files) (place at from : List ℕ) (e : Error)
-    → at ≡ place → from ≡ place → told ≡ tells → SameFiles old now
-    → (tells ≡ true → HasKindAt old at Folder) → (told ≡ true → IsNotFound now from e) → tells ≡ true
+pub none_found : (tells now_tells : Bool) (old now : Files) (place at from : List ℕ) (e : Error)
+    → at ≡ place → from ≡ place → now_tells ≡ tells → SameFiles old now
+    → (tells ≡ true → HasKindAt old at Folder) → (now_tells ≡ true → IsNotFound now from e) → tells ≡ true
     → IsSearchError old place e
-none_found tells told old now place at from e is is2 same_told same stands none t = inr (
+none_found tells now_tells old now place at from e is is2 same_tells same stands none t = inr (
   subst (λ path. HasKindAt old path Folder) is (stands t),
   subst (λ path. IsNotFound old path e) is2
-      (as_before (λ files. IsNotFound files from e) old now same (none (same_told ∙ t))),
+      (as_before (λ files. IsNotFound files from e) old now same (none (same_tells ∙ t))),
 )
 
 -- ---- a specified manifest, and none specified

@@ -37,11 +37,11 @@ least-more ps i p within is member =
     (option_map numbers_of p.rust_version ∷ [])
 
 -- with a package more that is no member
-pub least-kept : (ps : List Package) (i : ℕ) (p : Package) → i < length ps → p ≡ get_or ps i p
+pub least-same : (ps : List Package) (i : ℕ) (p : Package) → i < length ps → p ≡ get_or ps i p
     → p.member ≡ false
     → least (member_versions (packages_view (take (i + 1) ps)))
     ≡ least (member_versions (packages_view (take i ps)))
-least-kept ps i p within is member =
+least-same ps i p within is member =
     ap (λ xs. least (map (λ (x : PackageModel). x.rust_version) xs))
     (members-more ps i p false within is member ∙ append-nil (members (packages_view (take i ps))))
 
@@ -57,10 +57,10 @@ manifests-more ps i p within is member =
     ∙ map-append manifest_of (members (packages_view (take i ps))) (package_view p ∷ [])
 
 -- with a package more that is no member
-pub manifests-kept : (ps : List Package) (i : ℕ) (p : Package) → i < length ps → p ≡ get_or ps i p
+pub manifests-same : (ps : List Package) (i : ℕ) (p : Package) → i < length ps → p ≡ get_or ps i p
     → p.member ≡ false
     → member_manifests (packages_view (take (i + 1) ps)) ≡ member_manifests (packages_view (take i ps))
-manifests-kept ps i p within is member =
+manifests-same ps i p within is member =
     ap (map manifest_of)
     (members-more ps i p false within is member ∙ append-nil (members (packages_view (take i ps))))
 

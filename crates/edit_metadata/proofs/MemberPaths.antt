@@ -30,9 +30,9 @@ paths-more ps i p within is member =
     ∙ map-append (λ (x : PackageModel). x.manifest_path) (members (packages_view (take i ps)))
     (package_view p ∷ [])
 
-pub paths-kept : (ps : List Package) (i : ℕ) (p : Package) → i < length ps → p ≡ get_or ps i p
+pub paths-same : (ps : List Package) (i : ℕ) (p : Package) → i < length ps → p ≡ get_or ps i p
     → p.member ≡ false
     → member_paths (packages_view (take (i + 1) ps)) ≡ member_paths (packages_view (take i ps))
-paths-kept ps i p within is member =
+paths-same ps i p within is member =
     ap (map (λ (x : PackageModel). x.manifest_path)) (members-more ps i p false within is member
     ∙ append-nil (members (packages_view (take i ps))))

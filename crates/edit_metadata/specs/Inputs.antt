@@ -31,7 +31,7 @@ pub record RustOptions : Type 0 where
 
 -- the Rust version to plan for: the given one, else none if they are ignored, else the manifest's own
 abbrev pub rust_version_for : RustOptions → Option Numbers → Option Numbers
-rust_version_for asked own = option_or asked.given (if asked.ignored then None else own)
+rust_version_for options own = option_or options.given (if options.ignored then None else own)
 
 -- ---- manifests
 
@@ -64,10 +64,10 @@ manifests w = member_manifests w.packages ++ root_manifest w ∷ []
 -- ---- inputs
 
 -- the input is that of this manifest, except for its bytes
-pub record IsInputOf (asked : RustOptions) (m : ManifestModel) (i : Input) : Type 0 where
+pub record IsInputOf (options : RustOptions) (m : ManifestModel) (i : Input) : Type 0 where
   pub name : string_bytes i.name ≡ m.name
   pub path : IsNormalOf m.path (string_bytes i.path)
-  pub rust_version : option_map numbers_of i.rust_version ≡ rust_version_for asked m.rust_version
+  pub rust_version : option_map numbers_of i.rust_version ≡ rust_version_for options m.rust_version
 
 -- the path of an input
 abbrev pub path_of : Input → List ℕ
@@ -83,12 +83,12 @@ HaveOwnPaths is = AllPairs (λ a b. path_of a ≢ path_of b) is
 
 -- the inputs of a workspace: those of the members in order and, if none of them has the root's path, that of
 -- the root before them
-pub data AreInputs (asked : RustOptions) (w : WorkspaceModel) : List Input → Type 0 where
-  of_members : (root : List ℕ) (is : List Input) → AllZip (IsInputOf asked) (member_manifests w.packages) is
-      → IsNormalOf (root_manifest w).path root → Contains (input_paths is) root → AreInputs asked w is
-  with_root : (i : Input) (is : List Input) → AllZip (IsInputOf asked) (member_manifests w.packages) is
-      → IsInputOf asked (root_manifest w) i → (Contains (input_paths is) (string_bytes i.path) → ⊥)
-      → AreInputs asked w (i ∷ is)
+pub data AreInputs (options : RustOptions) (w : WorkspaceModel) : List Input → Type 0 where
+  of_members : (root : List ℕ) (is : List Input) → AllZip (IsInputOf options) (member_manifests w.packages) is
+      → IsNormalOf (root_manifest w).path root → Contains (input_paths is) root → AreInputs options w is
+  with_root : (i : Input) (is : List Input) → AllZip (IsInputOf options) (member_manifests w.packages) is
+      → IsInputOf options (root_manifest w) i → (Contains (input_paths is) (string_bytes i.path) → ⊥)
+      → AreInputs options w (i ∷ is)
 
 -- the input has the bytes of the file at its path
 abbrev pub IsReadFrom : Files → Input → Type 0

@@ -35,28 +35,28 @@ some_absent [] none = absurd (true≢false none)
 some_absent (name ∷ names) some = refl
 
 -- tests that agree on each name leave the same crates
-pub same_absent : (one other : List ℕ → Bool) (looks : List Look) → ((name : List ℕ) → one name ≡ other name)
-    → absent_names one looks ≡ absent_names other looks
+pub same_absent : (one other : List ℕ → Bool) (lookups : List Look) → ((name : List ℕ) → one name ≡ other name)
+    → absent_names one lookups ≡ absent_names other lookups
 same_absent one other [] same = refl
-same_absent one other (look ∷ looks) same =
-    ap (λ b. (if is_none look.answer && not b then string_bytes look.name ∷ [] else []) ++ absent_names one looks)
-    (same (string_bytes look.name))
-    ∙ ap (λ names. absent_at other look ++ names) (same_absent one other looks same)
+same_absent one other (lookup ∷ lookups) same =
+    ap (λ b. (if is_none lookup.answer && not b then string_bytes lookup.name ∷ [] else []) ++ absent_names one lookups)
+    (same (string_bytes lookup.name))
+    ∙ ap (λ names. absent_at other lookup ++ names) (same_absent one other lookups same)
 
 -- the note on the crates without an index entry
 pub absent_said : (p : UpgradePlan) (o : Options) (offline : Bool) (exclude : List (String Global))
-    (looks : List Look) (names slice : List (String Global)) (text message : List ℕ) → offline ≡ false
-    → exclude ≡ o.exclude.items → looks ≡ p.looks.items
-    → map string_bytes names ≡ absent_names (is_among (map string_bytes exclude)) looks
+    (lookups : List Look) (names slice : List (String Global)) (text message : List ℕ) → offline ≡ false
+    → exclude ≡ o.exclude.items → lookups ≡ p.looks.items
+    → map string_bytes names ≡ absent_names (is_among (map string_bytes exclude)) lookups
     → (length names == 0) ≡ false → slice ≡ names → text ≡ absent_text (map string_bytes slice)
     → message ≡ text → message_text false (codes "note") message ≡ absent_note p o offline
-absent_said p o offline exclude looks names slice text message online excluded looked are some is said shown =
+absent_said p o offline exclude lookups names slice text message online excluded same_lookups are some is said shown =
     let said_as = message_text false (codes "note") in
     ap said_as (shown ∙ said)
     ∙ ap (λ (xs : List (String Global)). said_as (absent_text (map string_bytes xs))) is
     ∙ some_absent names some
     ∙ ap names_note are
-    ∙ ap (λ (xs : List (String Global)). names_note (absent_names (is_among (map string_bytes xs)) looks)) excluded
-    ∙ ap (λ (xs : List Look). names_note (absent_names (is_among (map string_bytes o.exclude.items)) xs)) looked
+    ∙ ap (λ (xs : List (String Global)). names_note (absent_names (is_among (map string_bytes xs)) lookups)) excluded
+    ∙ ap (λ (xs : List Look). names_note (absent_names (is_among (map string_bytes o.exclude.items)) xs)) same_lookups
     ∙ sym (ap (λ b. if b then []
     else names_note (absent_names (is_among (map string_bytes o.exclude.items)) p.looks.items)) online)

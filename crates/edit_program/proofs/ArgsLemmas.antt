@@ -68,11 +68,11 @@ values_absent m id o is found =
     ∙ values_are m id o found
 
 -- what is made of the text of an option, where that is all of it
-pub kept_is : (m : ArgMatches) (id : Text) (o : Option (Bor (List ℕ))) (x : Option Text)
+pub option_text_is : (m : ArgMatches) (id : Text) (o : Option (Bor (List ℕ))) (x : Option Text)
     → x ≡ option_map (λ (s : Bor (List ℕ)). s.now) o
     → option_map (λ (s : Bor (List ℕ)). s.now) o ≡ first_value (found_of m) id
     → x ≡ first_of id (rows_of (found_of m))
-kept_is m id o x is found = is ∙ found ∙ first_value-rows (found_of m) id
+option_text_is m id o x is found = is ∙ found ∙ first_value-rows (found_of m) id
 
 some_map : (o : Option (Bor (List ℕ))) → is_some o ≡ is_some (option_map (λ (s : Bor (List ℕ)). s.now) o)
 some_map None = refl

@@ -47,12 +47,12 @@ pub check_after : (rows : List Row) (due : Bool) (s : ℕ) → s ≡ status_afte
 check_after rows due s is one = check_by (is_given (codes "check") rows) due s is one
 
 -- an upgrade at a dry run leaves each file as it was
-pub dry_upgrade : (due : Bool) (HasFields HasDecodedValue : List ℕ → Type 0) (words : UpgradeArgs) (run : Run)
-    → words.options.dry_run ≡ true → IsUpgraded due HasFields HasDecodedValue words run
+pub dry_upgrade : (due : Bool) (HasFields HasDecodedValue : List ℕ → Type 0) (args : UpgradeArgs) (run : Run)
+    → args.options.dry_run ≡ true → IsUpgraded due HasFields HasDecodedValue args run
     → SameFiles run.old.file_at run.new.file_at
-dry_upgrade due HasFields HasDecodedValue words run dry h =
-    dry_keeps HasFields (delivery_by words run.current h.plan h.sources.target h.path h.lock) run.old run.new dry
-    h.ends.delivered.told
+dry_upgrade due HasFields HasDecodedValue args run dry h =
+    dry_keeps HasFields (delivery_by args run.current h.plan h.sources.target h.path h.lock) run.old run.new dry
+    h.ends.delivered.printed
 
 nothing_written : (outputs : List Output) (old new : StoreView) → outputs ≡ [] → AreWritten outputs old new
     → SameFiles old.file_at new.file_at
@@ -60,9 +60,9 @@ nothing_written [] old new is are path = are.others path (All-nil (λ (o : Outpu
 nothing_written (o ∷ outputs) old new is are path = cc
 
 -- and so does a setting of versions
-pub dry_versions : (HasFields IsErrorOf : List ℕ → Type 0) (words : SetVersionArgs) (current : List ℕ) (due : Bool)
-    (old new : StoreView) → words.dry_run ≡ true → AreVersionsSet HasFields IsErrorOf words current due old new
+pub dry_versions : (HasFields IsErrorOf : List ℕ → Type 0) (args : SetVersionArgs) (current : List ℕ) (due : Bool)
+    (old new : StoreView) → args.dry_run ≡ true → AreVersionsSet HasFields IsErrorOf args current due old new
     → SameFiles old.file_at new.file_at
-dry_versions HasFields IsErrorOf words current due old new dry set =
-    nothing_written (outputs_to_write words set.plan.outputs.items) old new
+dry_versions HasFields IsErrorOf args current due old new dry set =
+    nothing_written (outputs_to_write args set.plan.outputs.items) old new
     (ap (λ (b : Bool). if b then [] else set.plan.outputs.items) dry) set.leaves.0

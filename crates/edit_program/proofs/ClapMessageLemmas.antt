@@ -14,14 +14,14 @@ use Rattle.edit_program.specs.Runs.{HasUsageError, IsAnswered, IsEnded, IsRunCau
 use Rattle.edit_program.proofs.CommandLemmas.{answered}
 
 -- what was printed in place of matches answers the words
-shown_is : (app : App) (words : List Text) (e : Error) (r : Result ℕ RunError) → app ≡ edit_app
-    → (takes app words ≡ true → kind_of e ≡ OutOfMemory)
-    → HasKind (fault_of app words) e
+shown_is : (app : App) (args : List Text) (e : Error) (r : Result ℕ RunError) → app ≡ edit_app
+    → (takes app args ≡ true → kind_of e ≡ OutOfMemory)
+    → HasKind (fault_of app args) e
     → (kind_of e ≡ OutOfMemory → IsErrAnd r (λ x. IsMemory x.error))
-    → IfOk r (λ s. s ≡ status_of (kind_of e)) → IfOk r (IsAnswered words)
-shown_is app words e (Ok s) is passes kinds memory same =
-    answered app words e s is passes kinds (λ no_memory. memory no_memory) same
-shown_is app words e (Err x) is passes kinds memory same = tt
+    → IfOk r (λ s. s ≡ status_of (kind_of e)) → IfOk r (IsAnswered args)
+shown_is app args e (Ok s) is passes kinds memory same =
+    answered app args e s is passes kinds (λ no_memory. memory no_memory) same
+shown_is app args e (Err x) is passes kinds memory same = tt
 
 -- its status is 0 or 2, never 1
 pub shown_small : (r : Result ℕ RunError) → IfOk r (λ s. (s ≡ 0) ⊎ (s ≡ 2)) → IfOk r (λ s. s ≤ 2)
@@ -29,66 +29,66 @@ shown_small (Ok s) (inl zero) = omega (arith, zero)
 shown_small (Ok s) (inr two) = omega (arith, two)
 shown_small (Err x) small = tt
 
-pub shown_unasked : (r : Result ℕ RunError) (P : Type 0) → IfOk r (λ s. (s ≡ 0) ⊎ (s ≡ 2))
+pub shown_unchecked : (r : Result ℕ RunError) (P : Type 0) → IfOk r (λ s. (s ≡ 0) ⊎ (s ≡ 2))
     → IfOk r (λ s. s ≡ 1 → P)
-shown_unasked (Ok s) P (inl zero) = λ one. absurd (omega (arith, zero, one))
-shown_unasked (Ok s) P (inr two) = λ one. absurd (omega (arith, two, one))
-shown_unasked (Err x) P small = tt
+shown_unchecked (Ok s) P (inl zero) = λ one. absurd (omega (arith, zero, one))
+shown_unchecked (Ok s) P (inr two) = λ one. absurd (omega (arith, two, one))
+shown_unchecked (Err x) P small = tt
 
-fault_in : (words : List Text) (r : Result ℕ RunError) → IfOk r (IsAnswered words)
-    → IfOk r (λ s. s ≡ 2 → HasUsageError words)
-fault_in words (Ok s) by = λ two. inl (subst (λ n. IsAnswered words n) two by)
-fault_in words (Err x) by = tt
+fault_in : (args : List Text) (r : Result ℕ RunError) → IfOk r (IsAnswered args)
+    → IfOk r (λ s. s ≡ 2 → HasUsageError args)
+fault_in args (Ok s) by = λ two. inl (subst (λ n. IsAnswered args n) two by)
+fault_in args (Err x) by = tt
 
 -- 2 is that of a fault
-pub shown_fault : (app : App) (words : List Text) (e : Error) (r : Result ℕ RunError) → app ≡ edit_app
-    → (takes app words ≡ true → kind_of e ≡ OutOfMemory)
-    → HasKind (fault_of app words) e
+pub shown_fault : (app : App) (args : List Text) (e : Error) (r : Result ℕ RunError) → app ≡ edit_app
+    → (takes app args ≡ true → kind_of e ≡ OutOfMemory)
+    → HasKind (fault_of app args) e
     → (kind_of e ≡ OutOfMemory → IsErrAnd r (λ x. IsMemory x.error))
     → IfOk r (λ s. s ≡ status_of (kind_of e))
-    → IfOk r (λ s. s ≡ 2 → HasUsageError words)
-shown_fault app words e r is passes kinds memory same =
-    fault_in words r (shown_is app words e r is passes kinds memory same)
+    → IfOk r (λ s. s ≡ 2 → HasUsageError args)
+shown_fault app args e r is passes kinds memory same =
+    fault_in args r (shown_is app args e r is passes kinds memory same)
 
-ended_in : (words : List Text) (r : Result ℕ RunError) (Q : Type 0) (HasFields IsErrorOf : List ℕ → Type 0)
+ended_in : (args : List Text) (r : Result ℕ RunError) (Q : Type 0) (HasFields IsErrorOf : List ℕ → Type 0)
     (current : List ℕ) (home : Option (List ℕ))
     (local files : StoreView)
-    → IfOk r (IsAnswered words) → IfOk r (λ s. (s ≡ 0) ⊎ (s ≡ 2))
-    → IfOk r (λ s. s ≢ 2 → Q → IsEnded words s HasFields IsErrorOf (run_at current home local files files))
-ended_in words (Ok s) Q HasFields IsErrorOf current home local files by (inl zero) =
-    λ other q. inl (zero, inl (subst (λ n. IsAnswered words n) zero by, λ path. refl))
-ended_in words (Ok s) Q HasFields IsErrorOf current home local files by (inr two) = λ other q. absurd (other two)
-ended_in words (Err x) Q HasFields IsErrorOf current home local files by small = tt
+    → IfOk r (IsAnswered args) → IfOk r (λ s. (s ≡ 0) ⊎ (s ≡ 2))
+    → IfOk r (λ s. s ≢ 2 → Q → IsEnded args s HasFields IsErrorOf (run_at current home local files files))
+ended_in args (Ok s) Q HasFields IsErrorOf current home local files by (inl zero) =
+    λ other q. inl (zero, inl (subst (λ n. IsAnswered args n) zero by, λ path. refl))
+ended_in args (Ok s) Q HasFields IsErrorOf current home local files by (inr two) = λ other q. absurd (other two)
+ended_in args (Err x) Q HasFields IsErrorOf current home local files by small = tt
 
 -- and 0 says that help or the version was shown
-pub shown_ended : (app : App) (words : List Text) (e : Error) (r : Result ℕ RunError) (Q : Type 0)
+pub shown_ended : (app : App) (args : List Text) (e : Error) (r : Result ℕ RunError) (Q : Type 0)
     (HasFields IsErrorOf : List ℕ → Type 0) (current : List ℕ) (home : Option (List ℕ))
     (local files : StoreView)
     → app ≡ edit_app
-    → (takes app words ≡ true → kind_of e ≡ OutOfMemory)
-    → HasKind (fault_of app words) e
+    → (takes app args ≡ true → kind_of e ≡ OutOfMemory)
+    → HasKind (fault_of app args) e
     → (kind_of e ≡ OutOfMemory → IsErrAnd r (λ x. IsMemory x.error)) → IfOk r (λ s. s ≡ status_of (kind_of e))
     → IfOk r (λ s. (s ≡ 0) ⊎ (s ≡ 2))
-    → IfOk r (λ s. s ≢ 2 → Q → IsEnded words s HasFields IsErrorOf (run_at current home local files files))
-shown_ended app words e r Q HasFields IsErrorOf current home local files is passes kinds memory same small =
-    ended_in words r Q HasFields IsErrorOf current home local files
-    (shown_is app words e r is passes kinds memory same) small
+    → IfOk r (λ s. s ≢ 2 → Q → IsEnded args s HasFields IsErrorOf (run_at current home local files files))
+shown_ended app args e r Q HasFields IsErrorOf current home local files is passes kinds memory same small =
+    ended_in args r Q HasFields IsErrorOf current home local files
+    (shown_is app args e r is passes kinds memory same) small
 
 -- what could not be printed, but for want of memory, is help or the version
-pub shown_why : (app : App) (words : List Text) (e : Error) (r : Result ℕ RunError) (HasFields : List ℕ → Type 0)
+pub shown_why : (app : App) (args : List Text) (e : Error) (r : Result ℕ RunError) (HasFields : List ℕ → Type 0)
     (current : List ℕ) (home : Option (List ℕ))
     (local files : StoreView) → app ≡ edit_app
-    → (takes app words ≡ true → kind_of e ≡ OutOfMemory)
-    → HasKind (fault_of app words) e
+    → (takes app args ≡ true → kind_of e ≡ OutOfMemory)
+    → HasKind (fault_of app args) e
     → IfErr r (λ x. IsMemory x.error ⊎ ((x.error ≡ Output) × (status_of (kind_of e) ≡ 0)))
-    → IfErr r (λ x. IsRunCause words HasFields (run_at current home local files files) x.error)
-shown_why app words e (Ok s) HasFields current home local files is passes kinds why = tt
-shown_why app words e (Err x) HasFields current home local files is passes kinds (inl memory) = inl memory
-shown_why app words e (Err x) HasFields current home local files is passes kinds (inr unwritten) = inr (inl (
+    → IfErr r (λ x. IsRunCause args HasFields (run_at current home local files files) x.error)
+shown_why app args e (Ok s) HasFields current home local files is passes kinds why = tt
+shown_why app args e (Err x) HasFields current home local files is passes kinds (inl memory) = inl memory
+shown_why app args e (Err x) HasFields current home local files is passes kinds (inr unwritten) = inr (inl (
   (λ path. refl),
   inl (
     unwritten.0,
-    answered app words e 0 is passes kinds
+    answered app args e 0 is passes kinds
         (λ memory. let bad : 2 ≡ 0 = subst (λ k. status_of k ≡ 0) memory unwritten.1 in
         absurd (omega (arith, bad)))
         (sym unwritten.1),

@@ -13,22 +13,22 @@ use Rattle.edit_program.specs.ParsedUpgrade.{HasUpgradeArgs}
 use Rattle.edit_program.specs.ParsedSetVersion.{HasSetVersionArgs}
 
 -- an upgrade that broke off is one for what the matches ask
-pub broken_for : (rows : List Row) (HasFields : List ℕ → Type 0) (run : Run) (asked : UpgradeArgs)
-    → HasUpgradeArgs rows asked
-    → SameFiles run.old.file_at run.new.file_at ⊎ IsBroken HasFields asked run
+pub broken_for : (rows : List Row) (HasFields : List ℕ → Type 0) (run : Run) (args : UpgradeArgs)
+    → HasUpgradeArgs rows args
+    → SameFiles run.old.file_at run.new.file_at ⊎ IsBroken HasFields args run
     → SameFiles run.old.file_at run.new.file_at ⊎ HasBroken rows HasFields run
-broken_for rows HasFields run asked asks (inl same) = inl same
-broken_for rows HasFields run asked asks (inr broken) =
-    inr (record { asked = asked; asks = asks; broken = broken })
+broken_for rows HasFields run args asks (inl same) = inl same
+broken_for rows HasFields run args asks (inr broken) =
+    inr (record { args = args; asks = asks; broken = broken })
 
 -- and so is a setting of versions
 pub stopped_for : (rows : List Row) (HasFields IsErrorOf : List ℕ → Type 0) (current : List ℕ) (old new : StoreView)
-    (asked : SetVersionArgs) → HasSetVersionArgs rows asked
-    → SameFiles old.file_at new.file_at ⊎ IsSettingInterrupted HasFields IsErrorOf asked current old new
+    (args : SetVersionArgs) → HasSetVersionArgs rows args
+    → SameFiles old.file_at new.file_at ⊎ IsSettingInterrupted HasFields IsErrorOf args current old new
     → SameFiles old.file_at new.file_at ⊎ HasStoppedSetting rows HasFields IsErrorOf current old new
-stopped_for rows HasFields IsErrorOf current old new asked asks (inl same) = inl same
-stopped_for rows HasFields IsErrorOf current old new asked asks (inr stopped) =
-    inr (record { asked = asked; asks = asks; stopped = stopped })
+stopped_for rows HasFields IsErrorOf current old new args asks (inl same) = inl same
+stopped_for rows HasFields IsErrorOf current old new args asks (inr stopped) =
+    inr (record { args = args; asks = asks; stopped = stopped })
 
 -- what holds in the second case
 pub in_right : {A B C : Type 0} → (B → C) → A ⊎ B → A ⊎ C

@@ -10,9 +10,9 @@ use Rattle.edit_words.specs.CommandLine.{edit_app}
 use Rattle.edit_program.specs.Runs.{IsNotParsed, HasParsedArgs, IsAnswered, HasNoSubcommand, status_of}
 
 -- words that are matched are taken
-taken_by : (app : App) (words : List Text) → app ≡ edit_app → fault_of app words ≡ []
-    → fault_of edit_app words ≡ []
-taken_by app words is taken = ap (λ (a : App). fault_of a words) (sym is) ∙ taken
+taken_by : (app : App) (args : List Text) → app ≡ edit_app → fault_of app args ≡ []
+    → fault_of edit_app args ≡ []
+taken_by app args is taken = ap (λ (a : App). fault_of a args) (sym is) ∙ taken
 
 both_of : (o : Option (Text × List Row)) (name : Text) (rows : List Row)
     → option_map (λ (p : Text × List Row). p.0) o ≡ Some name
@@ -29,25 +29,25 @@ map_map f g None = refl
 map_map f g (Some a) = refl
 
 -- the subcommand of the words is the one that was met
-met_by : (app : App) (words : List Text) (m : ArgMatches) → app ≡ edit_app → is_simple app ≡ true
-    → HasMatchesOf app words m → subcommand_of edit_app words ≡ subcommand_rows_of m
-met_by app words m is simple matches =
-    ap (λ (a : App). subcommand_of a words) (sym is) ∙ sym (matches simple).1
+met_by : (app : App) (args : List Text) (m : ArgMatches) → app ≡ edit_app → is_simple app ≡ true
+    → HasMatchesOf app args m → subcommand_of edit_app args ≡ subcommand_rows_of m
+met_by app args m is simple matches =
+    ap (λ (a : App). subcommand_of a args) (sym is) ∙ sym (matches simple).1
 
 -- the words name this subcommand, and its matches are those that were met
-pub entered_by : (app : App) (words : List Text) (m sub : ArgMatches) (name : Text) → app ≡ edit_app
-    → is_simple app ≡ true → HasMatchesOf app words m → fault_of app words ≡ []
+pub entered_by : (app : App) (args : List Text) (m sub : ArgMatches) (name : Text) → app ≡ edit_app
+    → is_simple app ≡ true → HasMatchesOf app args m → fault_of app args ≡ []
     → Some name ≡ subcommand_name_of m
     → Some (rows_of (found_of sub)) ≡ option_map (λ (p : Text × List Row). p.1) (subcommand_rows_of m)
-    → HasParsedArgs words name (rows_of (found_of sub))
-entered_by app words m sub name is simple matches taken named rows =
+    → HasParsedArgs args name (rows_of (found_of sub))
+entered_by app args m sub name is simple matches taken named rows =
     let alike : option_map (λ (p : Text × List Row). p.0) (subcommand_rows_of m) ≡ subcommand_name_of m =
     map_map _ _ (out-ArgMatches m).subcommand in
     let met : subcommand_rows_of m ≡ Some (name, rows_of (found_of sub)) =
     both_of (subcommand_rows_of m) name (rows_of (found_of sub)) (alike ∙ sym named) (sym rows) in
     record {
-      taken = taken_by app words is taken;
-      entered = met_by app words m is simple matches ∙ met;
+      taken = taken_by app args is taken;
+      entered = met_by app args m is simple matches ∙ met;
     }
 
 no_name : (o : Option (Text × List Row)) → option_map (λ (p : Text × List Row). p.0) o ≡ None → o ≡ None
@@ -55,22 +55,22 @@ no_name None is = refl
 no_name (Some p) is = cc
 
 -- the words name no subcommand, and none was met
-pub none_by : (app : App) (words : List Text) (m : ArgMatches) → app ≡ edit_app → is_simple app ≡ true
-    → HasMatchesOf app words m → fault_of app words ≡ [] → None ≡ subcommand_name_of m
-    → HasNoSubcommand words
-none_by app words m is simple matches taken named =
+pub none_by : (app : App) (args : List Text) (m : ArgMatches) → app ≡ edit_app → is_simple app ≡ true
+    → HasMatchesOf app args m → fault_of app args ≡ [] → None ≡ subcommand_name_of m
+    → HasNoSubcommand args
+none_by app args m is simple matches taken named =
     let alike : option_map (λ (p : Text × List Row). p.0) (subcommand_rows_of m) ≡ subcommand_name_of m =
     map_map _ _ (out-ArgMatches m).subcommand in
     record {
-      taken = taken_by app words is taken;
-      none = met_by app words m is simple matches ∙ no_name (subcommand_rows_of m) (alike ∙ sym named);
+      taken = taken_by app args is taken;
+      none = met_by app args m is simple matches ∙ no_name (subcommand_rows_of m) (alike ∙ sym named);
     }
 
 -- words that are refused, and not for want of memory, are not taken
-pub not_taken : (app : App) (words : List Text) (e : Error) → app ≡ edit_app
-    → (takes app words ≡ true → kind_of e ≡ OutOfMemory)
-    → (kind_of e ≡ OutOfMemory → ⊥) → IsNotParsed words
-not_taken app words e is passes other taken = other (passes (ap (λ (a : App). takes a words) is ∙ taken))
+pub not_taken : (app : App) (args : List Text) (e : Error) → app ≡ edit_app
+    → (takes app args ≡ true → kind_of e ≡ OutOfMemory)
+    → (kind_of e ≡ OutOfMemory → ⊥) → IsNotParsed args
+not_taken app args e is passes other taken = other (passes (ap (λ (a : App). takes a args) is ∙ taken))
 
 -- and the kind of the refusal is one that they may have
 among : (kinds : Kinds) (e : Error) → HasKind kinds e → (kind_of e ≡ OutOfMemory → ⊥)
@@ -79,14 +79,14 @@ among kinds e (inl memory) other = absurd (other memory)
 among kinds e (inr kind) other = kind
 
 -- so the command line answers them, by the status of that kind
-pub answered : (app : App) (words : List Text) (e : Error) (status : ℕ) → app ≡ edit_app
-    → (takes app words ≡ true → kind_of e ≡ OutOfMemory)
-    → HasKind (fault_of app words) e → (kind_of e ≡ OutOfMemory → ⊥) → status ≡ status_of (kind_of e)
-    → IsAnswered words status
-answered app words e status is passes kinds other same = record {
-  not_taken = not_taken app words e is passes other;
+pub answered : (app : App) (args : List Text) (e : Error) (status : ℕ) → app ≡ edit_app
+    → (takes app args ≡ true → kind_of e ≡ OutOfMemory)
+    → HasKind (fault_of app args) e → (kind_of e ≡ OutOfMemory → ⊥) → status ≡ status_of (kind_of e)
+    → IsAnswered args status
+answered app args e status is passes kinds other same = record {
+  not_taken = not_taken app args e is passes other;
   kind = kind_of e;
-  among = among (fault_of edit_app words) e
-      (subst (λ (a : App). HasKind (fault_of a words) e) is kinds) other;
+  among = among (fault_of edit_app args) e
+      (subst (λ (a : App). HasKind (fault_of a args) e) is kinds) other;
   is = same;
 }

@@ -34,9 +34,9 @@ use Rattle.edit_store.specs.Store.{IsCallError, StoreView, IsRaisedCount}
 use Rattle.edit_upgrade.specs.Caches.{StopsDocuments, StopsInputs, cache_view}
 use Rattle.edit_upgrade.specs.Causes.{HasBadEntry, StopsAt}
 use Rattle.edit_upgrade.specs.Causes.StopsAt.{no_address as lacks_address, no_answer as lacks_answer}
-use Rattle.edit_upgrade.specs.Looks.{CachedAnswers}
+use Rattle.edit_upgrade.specs.Lookups.{CachedAnswers}
 use Rattle.edit_upgrade.specs.Records.{RowEntry}
-use Rattle.edit_upgrade.specs.WordCauses.{IsOptionCause, IsPlanError}
+use Rattle.edit_upgrade.specs.OptionCauses.{IsOptionCause, IsPlanError}
 use Rattle.edit_upgrade.specs.declared.decision.options.Options.{Options}
 use Rattle.edit_version.specs.Changed as changed
 use Rattle.edit_version.specs.CrateSpecs.{IsInvalidSpec}
@@ -46,7 +46,7 @@ use Rattle.edit_version.specs.Requirement.{UpgradeResult}
 use Rattle.semver.specs.Parse.{Parts}
 use Rattle.edit_program.specs.Counted.{CountsIndexFault, HasFailedBelow}
 use Rattle.edit_program.specs.Delivery.{Delivery}
-use Rattle.edit_program.specs.TellingCauses.{AreListedIn, IsDeliveryCause, IsStopped}
+use Rattle.edit_program.specs.DeliveryCauses.{AreListedIn, IsDeliveryCause, IsStopped}
 
 -- ---- errors that are not the device's
 
@@ -65,9 +65,9 @@ pub shown_counts : {P Q : Type 0} (e : Error) → IsMemory e ⊎ ((e ≡ error.O
 shown_counts e (inl memory) = memory_counts e memory
 shown_counts e (inr output) = error_counts e error.Output output.0 (λ h. cc h)
 
-word_counts : {P : Type 0} (word : List ℕ) (e : Error) → IsInvalidSpec word e → number_of e ≡ 3 → P
-word_counts word (error.Device _) h device = absurd h
-word_counts word other h device = cc device
+arg_counts : {P : Type 0} (arg : List ℕ) (e : Error) → IsInvalidSpec arg e → number_of e ≡ 3 → P
+arg_counts arg (error.Device _) h device = absurd h
+arg_counts arg other h device = cc device
 
 manifest_counts : {P : Type 0} (bytes : List ℕ) (e : Error) → IsBadManifest bytes e → number_of e ≡ 3 → P
 manifest_counts bytes e (inl encoding) = other_counts e 2 encoding.0 (λ same. omega (arith, same))
@@ -85,7 +85,7 @@ url_counts configs named _ (no_url text parsed h g) device = cc device
 -- ---- a plan of an upgrade
 
 options_count : {P : Type 0} (o : Options) (e : Error) → IsOptionCause o e → number_of e ≡ 3 → P
-options_count o e (inl word) = word_counts word.word e word.refused
+options_count o e (inl arg) = arg_counts arg.arg e arg.refused
 options_count o e (inr memory) = memory_counts e memory.0
 
 entry_counts : (configs : List Config) (gives : Outcomes) (old : CachedAnswers) (before now : ℕ) (entry : RowEntry)
@@ -102,8 +102,8 @@ documents_count : {I : Type 0} (view : I → IndexView) (o : Options) (inputs : 
     → IsPlanError o (StopsDocuments inputs configs (cache_view view old) (cache_view view new)) e
     → number_of e ≡ 3 → IsRaisedCount (view (index_of old)).faults (view (index_of new)).faults
 documents_count view o inputs configs old new e (inl options) = options_count o e options
-documents_count view o inputs configs old new e (inr (words, inl memory)) = memory_counts e memory
-documents_count view o inputs configs old new e (inr (words, inr first)) =
+documents_count view o inputs configs old new e (inr (args, inl memory)) = memory_counts e memory
+documents_count view o inputs configs old new e (inr (args, inr first)) =
     entry_counts first.own.items _ _ _ _ first.stops.stops.entry e first.stops.stops.stops
 
 inputs_count : {I : Type 0} (view : I → IndexView) (o : Options) (inputs : List Input)
@@ -111,11 +111,11 @@ inputs_count : {I : Type 0} (view : I → IndexView) (o : Options) (inputs : Lis
     → IsPlanError o (StopsInputs inputs configs (cache_view view old) (cache_view view new)) e
     → number_of e ≡ 3 → IsRaisedCount (view (index_of old)).faults (view (index_of new)).faults
 inputs_count view o inputs configs old new e (inl options) = options_count o e options
-inputs_count {I} view o inputs configs old new e (inr (words, first)) = by first.stops
+inputs_count {I} view o inputs configs old new e (inr (args, first)) = by first.stops
   where
     by : IsBadManifest first.input.bytes.items e
-        ⊎ HasBadEntry first.own.items (cache_view view old).gives (cache_view view old).kept
-        (cache_view view new).kept (view (index_of old)).faults (view (index_of new)).faults
+        ⊎ HasBadEntry first.own.items (cache_view view old).gives (cache_view view old).cached
+        (cache_view view new).cached (view (index_of old)).faults (view (index_of new)).faults
         first.input.bytes.items e
         → number_of e ≡ 3 → IsRaisedCount (view (index_of old)).faults (view (index_of new)).faults
     by (inl bad) = manifest_counts first.input.bytes.items e bad
@@ -231,16 +231,16 @@ fault_before old mid new e later counts device =
 
 -- ---- what is delivered
 
-told_counts : {P : Type 0} (missing : List (List ℕ)) (e : Error) → AreListedIn missing e → number_of e ≡ 3 → P
-told_counts missing (error.Device _) h device = absurd h
-told_counts missing other h device = cc device
+listed_counts : {P : Type 0} (missing : List (List ℕ)) (e : Error) → AreListedIn missing e → number_of e ≡ 3 → P
+listed_counts missing (error.Device _) h device = absurd h
+listed_counts missing other h device = cc device
 
 stopped_counts : {P : Type 0} (HasFields : List ℕ → Type 0) (d : Delivery) (old new : StoreView) (e : Error)
     → IsStopped HasFields d old new e → number_of e ≡ 3 → P
 stopped_counts HasFields d old new e (inl (same, inl locked)) =
     error_counts e error.Locked locked.0 (λ h. cc h)
-stopped_counts HasFields d old new e (inl (same, inr word)) = word_counts word.1.word e word.1.refused
-stopped_counts HasFields d old new e (inr (told, lacks)) = told_counts _ e lacks.1
+stopped_counts HasFields d old new e (inl (same, inr arg)) = arg_counts arg.1.arg e arg.1.refused
+stopped_counts HasFields d old new e (inr (printed, lacks)) = listed_counts _ e lacks.1
 
 pub delivery_counts : (HasFields : List ℕ → Type 0) (d : Delivery) (old new : StoreView) (e : Error)
     → IsDeliveryCause HasFields d old new e → CountsFault old new e

@@ -22,7 +22,7 @@ use Rattle.edit_upgrade.specs.Inputs.{below}
 use Rattle.edit_upgrade.specs.declared.decision.options.Options.{Options}
 use Rattle.edit_upgrade.specs.declared.upgrade.Warning.{Warning}
 use Rattle.edit_program.specs.CallsFile.{calls_files, due_path, file_of}
-use Rattle.edit_program.specs.TellingCauses.{HasBadPackageArg, IsDeliveryCause, LacksNames}
+use Rattle.edit_program.specs.DeliveryCauses.{HasBadPackageArg, IsDeliveryCause, LacksNames}
 use Rattle.edit_program.specs.Delivered.{AreBothWritten, IsBehind, IsDelivered, IsWrittenAfterPrint, upgrade_outputs_to_write}
 use Rattle.edit_program.specs.Delivery.{Delivery, calls_against}
 use Rattle.edit_lock.specs.Views.{lock_view}
@@ -65,15 +65,15 @@ said_of_own verbosity i warnings =
 pub calls_cause : (HasFields : List ℕ → Type 0) (d : Delivery) (files : StoreView) (e : Error)
     → IsMemory e ⊎ HasBadPackageArg d.plan d.options e → IsDeliveryCause HasFields d files files e
 calls_cause HasFields d files e (inl memory) = inl (inl memory)
-calls_cause HasFields d files e (inr word) = inr (inr (inl ((λ path. refl), inr word)))
+calls_cause HasFields d files e (inr arg) = inr (inr (inl ((λ path. refl), inr arg)))
 
 -- the end of the output was not printed, or names are missing, once everything was written
 pub end_cause : (HasFields : List ℕ → Type 0) (d : Delivery) (old new : StoreView) (e : Error)
     → IsWrittenAfterPrint AreBothWritten HasFields d old new → IsMemory e ⊎ ((e ≡ Unwritten) ⊎ LacksNames d e)
     → IsDeliveryCause HasFields d old new e
-end_cause HasFields d old new e told (inl memory) = inl (inl memory)
-end_cause HasFields d old new e told (inr (inl unwritten)) = inr (inl unwritten)
-end_cause HasFields d old new e told (inr (inr lacks)) = inr (inr (inr (told, lacks)))
+end_cause HasFields d old new e printed (inl memory) = inl (inl memory)
+end_cause HasFields d old new e printed (inr (inl unwritten)) = inr (inl unwritten)
+end_cause HasFields d old new e printed (inr (inr lacks)) = inr (inr (inr (printed, lacks)))
 
 -- what is to be written goes to paths of its own
 pub written_differ : (o : Options) (outputs : List Output) → HaveDistinctPaths outputs
@@ -108,17 +108,17 @@ refused_later of old mid new e later (inr failed) =
     inr (failed.0, raised_later old.faults mid.faults new.faults later failed.1)
 
 -- calls that are lent are those that are right against the lock file
-pub told_calls : (lock : Option (Bor Lock)) (offline : Bool) (due made calls : List (Vec (String Global) Global))
+pub lent_calls : (lock : Option (Bor Lock)) (offline : Bool) (due made calls : List (Vec (String Global) Global))
     (of : List Call) → calls ≡ made
     → calls_view made ≡ calls_against (option_map (λ l. lock_view l.now) lock) offline (calls_view due)
     → calls_view due ≡ of
     → calls_view calls ≡ calls_against (option_map (λ l. lock_view l.now) lock) offline of
-told_calls lock offline due made calls of lent right are =
+lent_calls lock offline due made calls of lent right are =
     ap calls_view lent ∙ right
     ∙ ap (calls_against (option_map (λ (l : Bor Lock). lock_view l.now) lock) offline) are
 
 -- what was printed and is not held back, and what is left of the files
-pub told_to : (Leaves : List Output → List Output → StoreView → StoreView → Type 0) (HasFields : List ℕ → Type 0)
+pub printed_to : (Leaves : List Output → List Output → StoreView → StoreView → Type 0) (HasFields : List ℕ → Type 0)
     (d : Delivery) (old new : StoreView) (calls : List Call) (outputs made file : List Output)
     → calls ≡ d.calls
     → HasFields (tables d.presentation.format d.options.verbosity d.plan.rows.items (length d.inputs)
@@ -128,7 +128,7 @@ pub told_to : (Leaves : List Output → List Output → StoreView → StoreView 
     → outputs ≡ upgrade_outputs_to_write d.options d.plan.outputs.items → file ≡ made
     → map file_of made ≡ calls_files (due_path d.options d.calls_path) calls
     → Leaves outputs file old new → IsWrittenAfterPrint Leaves HasFields d old new
-told_to Leaves HasFields d old new calls outputs made file of shows unlocked is same are leaves = record {
+printed_to Leaves HasFields d old new calls outputs made file of shows unlocked is same are leaves = record {
   shows = subst (λ cs. HasFields (tables d.presentation.format d.options.verbosity d.plan.rows.items (length d.inputs)
       ++ (messages_as d.presentation.format d.plan d.inputs d.options cs
       ++ diffs_if d.presentation.diff d.current d.inputs d.plan.outputs.items))) of shows;
@@ -142,4 +142,4 @@ told_to Leaves HasFields d old new calls outputs made file of shows unlocked is 
 pub delivered : (HasFields : List ℕ → Type 0) (d : Delivery) (old new : StoreView)
     → IsWrittenAfterPrint AreBothWritten HasFields d old new → map string_bytes d.plan.missing.items ≡ []
     → IsDelivered HasFields d old new
-delivered HasFields d old new told complete = record { told = told; complete = complete }
+delivered HasFields d old new printed complete = record { printed = printed; complete = complete }

@@ -23,17 +23,17 @@ no_files [] is = refl
 no_files (o ∷ os) is = cc
 
 -- nothing is written to no files
-kept : (outputs : List Output) (old new : StoreView) → outputs ≡ [] → AreWritten outputs old new
+unchanged : (outputs : List Output) (old new : StoreView) → outputs ≡ [] → AreWritten outputs old new
     → SameFiles old.file_at new.file_at
-kept [] old new is written path = written.others path (λ k d within. absurd (omega (arith, within)))
-kept (o ∷ os) old new is written path = cc
+unchanged [] old new is written path = written.others path (λ k d within. absurd (omega (arith, within)))
+unchanged (o ∷ os) old new is written path = cc
 
 -- what is delivered at a dry run
 pub dry_keeps : (HasFields : List ℕ → Type 0) (d : Delivery) (old new : StoreView) → d.options.dry_run ≡ true
     → IsWrittenAfterPrint AreBothWritten HasFields d old new → SameFiles old.file_at new.file_at
-dry_keeps HasFields d old new dry told path =
-    kept told.calls told.leaves.mid new
-    (no_files told.calls (told.are ∙ ap (λ p. calls_files p d.calls) (none_due d.options d.calls_path dry)))
-    told.leaves.behind path
-    ∙ kept (upgrade_outputs_to_write d.options d.plan.outputs.items) old told.leaves.mid
-    (none_written d.options d.plan.outputs.items dry) told.leaves.before path
+dry_keeps HasFields d old new dry printed path =
+    unchanged printed.calls printed.leaves.mid new
+    (no_files printed.calls (printed.are ∙ ap (λ p. calls_files p d.calls) (none_due d.options d.calls_path dry)))
+    printed.leaves.behind path
+    ∙ unchanged (upgrade_outputs_to_write d.options d.plan.outputs.items) old printed.leaves.mid
+    (none_written d.options d.plan.outputs.items dry) printed.leaves.before path

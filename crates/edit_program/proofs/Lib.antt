@@ -11,7 +11,7 @@ pub mod OrderLemmas
 pub mod CountLemmas
 pub mod IndexFaults
 pub mod LockLemmas
-pub mod LookLemmas
+pub mod LookupLemmas
 mod StagingLemmas
 pub mod UpgradeLemmas
 pub mod PrintedLemmas

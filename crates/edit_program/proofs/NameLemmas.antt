@@ -41,12 +41,12 @@ name_added reason row old new name same text inserted_values =
     ∙ sym (ap (λ b. if b then with_name (map string_bytes old) named else map string_bytes old) same)
 
 -- the set at a row of another reason
-pub name_kept : (reason : List ℕ) (row : Row) (old new : List (String Global))
+pub name_unchanged : (reason : List ℕ) (row : Row) (old new : List (String Global))
     → bytes_eq (reason_in_notes row) reason ≡ false → new ≡ old
     → map string_bytes new ≡ add_name reason (map string_bytes old) row
-name_kept reason row old new other kept =
+name_unchanged reason row old new other unchanged =
     let named = name_text (string_bytes row.name) row.rename in
-    ap (map string_bytes) kept
+    ap (map string_bytes) unchanged
     ∙ sym (ap (λ b. if b then with_name (map string_bytes old) named else map string_bytes old) other)
 
 -- names in a row

@@ -102,4 +102,4 @@ rows_in_order inputs p turns =
 pub warnings_in_order : (inputs : List Input) (p : UpgradePlan) → WarningsInOrder inputs p
     → AreWarningsInOrder p.warnings.items
 warnings_in_order inputs p turns =
-    in_order_by (λ (told : WarningView). told.input) warning_view (length inputs) p.warnings.items turns
+    in_order_by (λ (warning : WarningView). warning.input) warning_view (length inputs) p.warnings.items turns

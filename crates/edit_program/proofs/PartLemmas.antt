@@ -25,13 +25,13 @@ none_left p (x ∷ xs) out =
     ∙ none_left p xs (λ k d low high. out (suc k) d (omega arith) (omega (arith, high)))
 
 -- items that are taken for their test, up to a place
-kept : {A : Type 0} (p : A → Bool) (items : List A) (n : ℕ) → n ≤ length items
+filter_rest : {A : Type 0} (p : A → Bool) (items : List A) (n : ℕ) → n ≤ length items
     → AllWithin (λ x. p x ≡ true) items 0 n → AllWithin (λ x. p x ≡ false) items n (length items)
     → take n items ≡ filter p items
-kept p items zero le within out = sym (none_left p items out)
-kept p [] (suc n) le within out = refl
-kept {A} p (x ∷ xs) (suc n) le within out =
-    ap (λ (ys : List A). x ∷ ys) (kept p xs n (omega (arith, le))
+filter_rest p items zero le within out = sym (none_left p items out)
+filter_rest p [] (suc n) le within out = refl
+filter_rest {A} p (x ∷ xs) (suc n) le within out =
+    ap (λ (ys : List A). x ∷ ys) (filter_rest p xs n (omega (arith, le))
     (λ k d low high. within (suc k) d (omega arith) (omega (arith, high)))
     (λ k d low high. out (suc k) d (omega (arith, low)) (omega (arith, high))))
     ∙ sym (ap (λ b. cond b (x ∷ filter p xs) (filter p xs)) (within 0 x (omega arith) (omega arith)))
@@ -58,7 +58,7 @@ pub window : {A : Type 0} (number : A → ℕ) (i : ℕ) (items rest : List A) (
     → IsPartitionPoint (λ x. leb (number x) i ≡ true) (λ x. leb (number x) i ≡ false) rest end
     → take end rest ≡ filter (λ x. number x == i) items
 window {A} number i items rest start end cut le1 le2 first second =
-    kept (λ x. number x == i) rest end le2
+    filter_rest (λ x. number x == i) rest end le2
     (λ k d low high.
     let x = slice_index_or rest k d in
     let up = leb-true (number x) i (second.0 k d low high) in

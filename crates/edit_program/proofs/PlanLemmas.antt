@@ -15,10 +15,10 @@ use Rattle.edit_cache.specs.declared.cache.IndexCache.{IndexCache}
 use Rattle.edit_sources.specs.declared.config.Config.{Config}
 use Rattle.edit_upgrade.specs.Caches.{CacheView, LeavesCache, StopsDocuments, StopsInputs, cache_view}
 use Rattle.edit_upgrade.specs.Causes.{IsCause}
-use Rattle.edit_upgrade.specs.Looks.{AddsNeeded, CachedAnswers, cached_by}
+use Rattle.edit_upgrade.specs.Lookups.{AddsNeeded, CachedAnswers, cached_by}
 use Rattle.edit_upgrade.specs.Plans.{IsPlan}
 use Rattle.edit_upgrade.specs.Upgraded.{IsNeeded}
-use Rattle.edit_upgrade.specs.WordCauses.{IsPlanError}
+use Rattle.edit_upgrade.specs.OptionCauses.{IsPlanError}
 use Rattle.edit_upgrade.specs.declared.decision.options.Options.{Options}
 use Rattle.edit_upgrade.specs.declared.upgrade.UpgradePlan.{UpgradePlan}
 use Rattle.edit_program.specs.Planned.{IsPlanCause, IsPlanStopped, IsPlanned, empty_answers, cache_over}
@@ -33,7 +33,7 @@ nothing cache empty =
 -- of the cache behind a plan only the answers that are kept count
 answers_count : (o : Options) (inputs : List Input) (configs : List (Vec Config)) (old now : CacheView)
     (view : IndexView) (p : UpgradePlan) → IsPlan o inputs configs old now p
-    → IsPlan o inputs configs old (cache_over view now.kept) p
+    → IsPlan o inputs configs old (cache_over view now.cached) p
 answers_count o inputs configs old now view p h = record {
   rows = h.rows;
   rows_in_order = h.rows_in_order;
@@ -48,8 +48,8 @@ answers_count o inputs configs old now view p h = record {
   fixed_point = h.fixed_point;
   needs = h.needs;
   missing = h.missing;
-  looks = h.looks;
-  looks_in_order = h.looks_in_order;
+  lookups = h.lookups;
+  lookups_in_order = h.lookups_in_order;
   lists = h.lists;
 }
 
@@ -62,7 +62,7 @@ pub planned : {I : Type 0} (view : I → IndexView) (index : I) (o : Options) (i
 planned {I} view index o inputs configs old new p is empty h =
     let now : CacheView = cache_over (view index) (cached_by new) in
     record {
-      kept = cached_by new;
+      cached = cached_by new;
       is = subst (λ (i : I). IsPlan o inputs configs (cache_over (view i) empty_answers) now p) is
           (subst (λ (k : CachedAnswers). IsPlan o inputs configs (cache_over (view (index_of old)) k) now p)
           (nothing old empty)
@@ -77,7 +77,7 @@ input_stops : {I : Type 0} (view : I → IndexView) (index : I) (inputs : List I
     → StopsInputs inputs configs (cache_view view old) (cache_view view new) e
     → IsPlanStopped inputs configs (view index) e
 input_stops {I} view index inputs configs old new e is empty left h = record {
-  kept = cached_by new;
+  cached = cached_by new;
   adds = subst (λ (i : I). AddsNeeded (IsNeeded inputs configs) (view i).gives empty_answers (cached_by new)) is
       (subst (λ (k : CachedAnswers). AddsNeeded (IsNeeded inputs configs) (view (index_of old)).gives k (cached_by new))
       (nothing old empty) left.adds);
@@ -95,9 +95,9 @@ bytes_refused : {I : Type 0} (view : I → IndexView) (index : I) (o : Options) 
     → LeavesCache (IsNeeded inputs configs) (cache_view view old) (cache_view view new)
     → IsPlanError o (StopsInputs inputs configs (cache_view view old) (cache_view view new)) e
     → IsMemory e ⊎ IsPlanCause o inputs configs (view index) e
-bytes_refused view index o inputs configs old new e is empty left (inl word) = inr (inl word)
-bytes_refused view index o inputs configs old new e is empty left (inr (words, cause)) =
-    inr (inr (words, input_stops view index inputs configs old new e is empty left cause))
+bytes_refused view index o inputs configs old new e is empty left (inl arg) = inr (inl arg)
+bytes_refused view index o inputs configs old new e is empty left (inr (args, cause)) =
+    inr (inr (args, input_stops view index inputs configs old new e is empty left cause))
 
 -- and one of documents
 documents_refused : {I : Type 0} (view : I → IndexView) (index : I) (o : Options) (inputs : List Input)
@@ -106,9 +106,9 @@ documents_refused : {I : Type 0} (view : I → IndexView) (index : I) (o : Optio
     → LeavesCache (IsNeeded inputs configs) (cache_view view old) (cache_view view new)
     → IsPlanError o (StopsDocuments inputs configs (cache_view view old) (cache_view view new)) e
     → IsMemory e ⊎ IsPlanCause o inputs configs (view index) e
-documents_refused view index o inputs configs old new e is empty left (inl word) = inr (inl word)
-documents_refused view index o inputs configs old new e is empty left (inr (words, inl memory)) = inl memory
-documents_refused view index o inputs configs old new e is empty left (inr (words, inr first)) =
+documents_refused view index o inputs configs old new e is empty left (inl arg) = inr (inl arg)
+documents_refused view index o inputs configs old new e is empty left (inr (args, inl memory)) = inl memory
+documents_refused view index o inputs configs old new e is empty left (inr (args, inr first)) =
     let stops : StopsInputs inputs configs (cache_view view old) (cache_view view new) e = record {
       i = first.i;
       input = first.input;
@@ -118,7 +118,7 @@ documents_refused view index o inputs configs old new e is empty left (inr (word
       passed = first.passed;
       stops = inr first.stops;
     } in
-    inr (inr (words, input_stops view index inputs configs old new e is empty left stops))
+    inr (inr (args, input_stops view index inputs configs old new e is empty left stops))
 
 -- a cause that follows from two that an error has
 pub both_causes : {T E : Type 0} (r : Result T E) (P Q R : E → Type 0) → ((e : E) → P e → Q e → R e)

@@ -8,11 +8,11 @@ use Rattle.edit_program.specs.Printed.{set_version_stderr_text, statuses_in, war
 use Rattle.edit_program.specs.declared.set_version_run.set_version_args.SetVersionArgs.{SetVersionArgs}
 
 -- all that standard error has
-pub printed_all : (words : SetVersionArgs) (lines : List ReportLine) (a b c d : Option (List ℕ))
-    → Appends a b (warning_if words.all
+pub printed_all : (args : SetVersionArgs) (lines : List ReportLine) (a b c d : Option (List ℕ))
+    → Appends a b (warning_if args.all
     (codes "The flag `--all` has been deprecated in favor of `--workspace`"))
-    → Appends b c (statuses_in words.presentation.format lines)
-    → Appends c d (warning_if words.dry_run (codes "aborting set-version due to dry run"))
-    → Appends a d (set_version_stderr_text words lines)
-printed_all words lines a b c d first second third =
+    → Appends b c (statuses_in args.presentation.format lines)
+    → Appends c d (warning_if args.dry_run (codes "aborting set-version due to dry run"))
+    → Appends a d (set_version_stderr_text args lines)
+printed_all args lines a b c d first second third =
     Appends-trans a b d _ _ first (Appends-trans b c d _ _ second third)

@@ -25,9 +25,9 @@ use Rattle.edit_program.specs.SetVersions.{IsPlannedTo, IsRead, outputs_to_write
 use Rattle.edit_program.specs.declared.set_version_run.set_version_args.SetVersionArgs.{SetVersionArgs}
 
 -- what is to be written goes to paths of its own
-pub written_differ : (words : SetVersionArgs) (is : List Input) (outputs : List Output) → HaveOwnPaths is
-    → OutputsInOrder is outputs → HaveDistinctPaths (outputs_to_write words outputs)
-written_differ words is outputs own in_order = go words.dry_run
+pub written_differ : (args : SetVersionArgs) (is : List Input) (outputs : List Output) → HaveOwnPaths is
+    → OutputsInOrder is outputs → HaveDistinctPaths (outputs_to_write args outputs)
+written_differ args is outputs own in_order = go args.dry_run
   where
     go : (dry : Bool) → HaveDistinctPaths (if dry then [] else outputs)
     go true = none_differ (λ a b. path_of a ≢ path_of b)
@@ -35,14 +35,14 @@ written_differ words is outputs own in_order = go words.dry_run
 
 -- what was read, planned and printed, and what is left of the files
 pub planned_to : (Leaves : List Output → StoreView → StoreView → Type 0) (HasFields IsErrorOf : List ℕ → Type 0)
-    (words : SetVersionArgs) (current : List ℕ) (old new : StoreView) (w : WorkspaceModel) (is : List Input)
-    (plan : SetVersionPlan) → (old.tells ≡ true → IsRead words current old.file_at w is)
-    → IsVersionPlan (target_of words.target) (selection_view words.selection) w is plan
-    → HasFields (set_version_stdout_text words w.root is plan)
-    → IsErrorOf (set_version_stderr_text words (plan_lines_view plan))
+    (args : SetVersionArgs) (current : List ℕ) (old new : StoreView) (w : WorkspaceModel) (is : List Input)
+    (plan : SetVersionPlan) → (old.tells ≡ true → IsRead args current old.file_at w is)
+    → IsVersionPlan (target_of args.target) (selection_view args.selection) w is plan
+    → HasFields (set_version_stdout_text args w.root is plan)
+    → IsErrorOf (set_version_stderr_text args (plan_lines_view plan))
     → Leaves plan.outputs.items old new → old.tells ≡ true
-    → IsPlannedTo Leaves HasFields IsErrorOf words current old new
-planned_to Leaves HasFields IsErrorOf words current old new w is plan read planned shows tells leaves t = record {
+    → IsPlannedTo Leaves HasFields IsErrorOf args current old new
+planned_to Leaves HasFields IsErrorOf args current old new w is plan read planned shows tells leaves t = record {
   workspace = w;
   inputs = is;
   plan = plan;
@@ -54,28 +54,28 @@ planned_to Leaves HasFields IsErrorOf words current old new w is plan read plann
 }
 
 -- what is printed was not taken, or memory ran out for it, before a file was written
-pub stream_cause : (words : SetVersionArgs) (current : List ℕ) (old new : StoreView) (e : Error)
+pub stream_cause : (args : SetVersionArgs) (current : List ℕ) (old new : StoreView) (e : Error)
     → SameFiles old.file_at new.file_at → IsMemory e ⊎ (e ≡ Unwritten)
-    → IsSetVersionCause words current old new e
-stream_cause words current old new e same (inl memory) = inl (inl memory)
-stream_cause words current old new e same (inr unwritten) = inr (same, inr (inl unwritten))
+    → IsSetVersionCause args current old new e
+stream_cause args current old new e same (inl memory) = inl (inl memory)
+stream_cause args current old new e same (inr unwritten) = inr (same, inr (inl unwritten))
 
 -- a workspace that is not read
-pub workspace_cause : (words : SetVersionArgs) (current : List ℕ) (old new : StoreView) (e : Error)
+pub workspace_cause : (args : SetVersionArgs) (current : List ℕ) (old new : StoreView) (e : Error)
     → SameFiles old.file_at new.file_at
     → IsCallError call.Read old new e
-    ⊎ (old.tells ≡ true → HasNoWorkspace old.file_at current words.metadata_json.now e)
-    → IsSetVersionCause words current old new e
-workspace_cause words current old new e same (inl refused) = inr (same, inl refused)
-workspace_cause words current old new e same (inr wrong) = inr (same, inr (inr (λ t. inl (wrong t))))
+    ⊎ (old.tells ≡ true → HasNoWorkspace old.file_at current args.metadata_json.now e)
+    → IsSetVersionCause args current old new e
+workspace_cause args current old new e same (inl refused) = inr (same, inl refused)
+workspace_cause args current old new e same (inr wrong) = inr (same, inr (inr (λ t. inl (wrong t))))
 
 -- a plan that is not made
-pub plan_cause : (words : SetVersionArgs) (current : List ℕ) (old new : StoreView) (w : WorkspaceModel)
+pub plan_cause : (args : SetVersionArgs) (current : List ℕ) (old new : StoreView) (w : WorkspaceModel)
     (is : List Input) (e : Error) → SameFiles old.file_at new.file_at
-    → (old.tells ≡ true → IsRead words current old.file_at w is)
-    → IsCauseOf (target_of words.target) (selection_view words.selection) w is e
-    → IsSetVersionCause words current old new e
-plan_cause words current old new w is e same read cause = inr (
+    → (old.tells ≡ true → IsRead args current old.file_at w is)
+    → IsCauseOf (target_of args.target) (selection_view args.selection) w is e
+    → IsSetVersionCause args current old new e
+plan_cause args current old new w is e same read cause = inr (
   same,
   inr (inr (λ t. inr (record {
     workspace = w;

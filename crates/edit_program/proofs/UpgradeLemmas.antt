@@ -25,7 +25,7 @@ use Rattle.edit_steps.specs.Shared.{lists_for}
 use Rattle.edit_steps.specs.declared.upgrade_read.sources.Sources.{Sources}
 use Rattle.edit_steps.specs.declared.upgrade_read.target.Target.{Target}
 use Rattle.edit_program.proofs.StagingLemmas.{all_stopped_after, behind_after}
-use Rattle.edit_program.specs.TellingCauses.{IsDeliveryCause, IsStopped}
+use Rattle.edit_program.specs.DeliveryCauses.{IsDeliveryCause, IsStopped}
 use Rattle.edit_program.specs.Delivered.{AreBothWritten, HaveStopped, IsDeliveryInterrupted, IsDelivered, IsWrittenAfterPrint, upgrade_outputs_to_write}
 use Rattle.edit_program.specs.Delivery.{Delivery, calls_against, calls_of}
 use Rattle.edit_program.specs.LockRead.{HasNoLock, IsLockRead}
@@ -37,10 +37,10 @@ use Rattle.edit_program.specs.Upgrading.{IsUpgradeResult, IsBroken, IsPathOf, Is
 use Rattle.edit_program.specs.declared.upgrade_run.upgrade_args.UpgradeArgs.{UpgradeArgs}
 
 -- the outputs of a plan go to paths of their own
-pub plan_paths : (words : UpgradeArgs) (s : Sources) (local : StoreView) (plan : UpgradePlan)
-    → HaveOwnPaths s.target.inputs.items → IsPlannedFor words s local plan
+pub plan_paths : (args : UpgradeArgs) (s : Sources) (local : StoreView) (plan : UpgradePlan)
+    → HaveOwnPaths s.target.inputs.items → IsPlannedFor args s local plan
     → HaveDistinctPaths plan.outputs.items
-plan_paths words s local plan own planned =
+plan_paths args s local plan own planned =
     outputs_differ (λ path. not (length (outputs_at path plan) == 0)) s.target.inputs.items plan.outputs.items
     own planned.is.outputs_in_order
 
@@ -59,29 +59,29 @@ same_lock (Some l) lock is = ap (option_map lock_view) is
 -- a plan for these manifests as the arguments ask for it, where diffs name files from this folder
 abbrev delivery_at : UpgradeArgs → UpgradePlan → List Input → Option WorkspaceModel → List ℕ → Option (List ℕ)
     → Option (List Package) → Delivery
-delivery_at words plan inputs workspace root path lock = record {
+delivery_at args plan inputs workspace root path lock = record {
   plan = plan;
   inputs = inputs;
-  options = words.options;
+  options = args.options;
   current = root;
-  presentation = words.presentation;
-  calls = calls_against lock words.offline (calls_of plan words.options workspace);
+  presentation = args.presentation;
+  calls = calls_against lock args.offline (calls_of plan args.options workspace);
   calls_path = path;
-  offline = words.offline;
+  offline = args.offline;
 }
 
 -- what is delivered is what the arguments ask for
-pub same_delivery : (words : UpgradeArgs) (current root : List ℕ) (plan : UpgradePlan) (target : Target)
+pub same_delivery : (args : UpgradeArgs) (current root : List ℕ) (plan : UpgradePlan) (target : Target)
     (path : Option (List ℕ)) (lock : Option (List Package)) (inputs : List Input) (r : Option (Bor Workspace))
     → root ≡ diff_root current (option_map (λ x. workspace_view x.now) r)
     → inputs ≡ target.inputs.items → option_copied r ≡ target.workspace
-    → delivery_at words plan inputs (option_map (λ x. workspace_view x.now) r) root path lock
-    ≡ delivery_by words current plan target path lock
-same_delivery words current root plan target path lock inputs r from same is =
+    → delivery_at args plan inputs (option_map (λ x. workspace_view x.now) r) root path lock
+    ≡ delivery_by args current plan target path lock
+same_delivery args current root plan target path lock inputs r from same is =
     let workspace = option_map (λ (x : Bor Workspace). workspace_view x.now) r in
-    ap (λ (folder : List ℕ). delivery_at words plan inputs workspace folder path lock) from
-    ∙ ap (λ (xs : List Input). delivery_at words plan xs workspace (diff_root current workspace) path lock) same
-    ∙ ap (λ (w : Option WorkspaceModel). delivery_at words plan target.inputs.items w (diff_root current w) path lock)
+    ap (λ (folder : List ℕ). delivery_at args plan inputs workspace folder path lock) from
+    ∙ ap (λ (xs : List Input). delivery_at args plan xs workspace (diff_root current workspace) path lock) same
+    ∙ ap (λ (w : Option WorkspaceModel). delivery_at args plan target.inputs.items w (diff_root current w) path lock)
     (same_workspace r target.workspace is)
 
 -- a plan was delivered, and the answer is whether it changes a manifest
@@ -97,30 +97,30 @@ answered due HasFields HasDecodedValue old new task d same is delivered says = r
 
 -- ---- behind reads
 
-told_after : (Leaves : List Output → List Output → StoreView → StoreView → Type 0) (HasFields : List ℕ → Type 0)
+printed_after : (Leaves : List Output → List Output → StoreView → StoreView → Type 0) (HasFields : List ℕ → Type 0)
     (d : Delivery) (old mid new : StoreView)
     → ((first last : List Output) → Leaves first last mid new → Leaves first last old new)
     → IsWrittenAfterPrint Leaves HasFields d mid new → IsWrittenAfterPrint Leaves HasFields d old new
-told_after Leaves HasFields d old mid new after told = record {
-  shows = told.shows;
-  unlocked = told.unlocked;
-  calls = told.calls;
-  are = told.are;
-  leaves = after (upgrade_outputs_to_write d.options d.plan.outputs.items) told.calls told.leaves;
+printed_after Leaves HasFields d old mid new after printed = record {
+  shows = printed.shows;
+  unlocked = printed.unlocked;
+  calls = printed.calls;
+  are = printed.are;
+  leaves = after (upgrade_outputs_to_write d.options d.plan.outputs.items) printed.calls printed.leaves;
 }
 
 -- a plan that was delivered
-pub upgraded : (due : Bool) (HasFields HasDecodedValue : List ℕ → Type 0) (words : UpgradeArgs) (current : List ℕ)
+pub upgraded : (due : Bool) (HasFields HasDecodedValue : List ℕ → Type 0) (args : UpgradeArgs) (current : List ℕ)
     (home : Option (List ℕ)) (local old mid new : StoreView) (s : Sources) (plan : UpgradePlan)
     (path : Option (List ℕ)) (lock : Option (List Package)) → OnlyReads old mid
-    → (old.tells ≡ true → IsRead words current home old.file_at s) → IsPlannedFor words s local plan
-    → IsPathOf current (given words.update_calls) path
-    → (old.tells ≡ true → IsLockRead old.file_at current (given words.lock_file) lock)
-    → IsUpgradeResult due HasFields HasDecodedValue mid new (delivery_by words current plan s.target path lock)
-    → old.tells ≡ true → IsUpgraded due HasFields HasDecodedValue words (run_at current home local old new)
-upgraded due HasFields HasDecodedValue words current home local old mid new s plan path lock reads read planned at locked answered
+    → (old.tells ≡ true → IsRead args current home old.file_at s) → IsPlannedFor args s local plan
+    → IsPathOf current (given args.update_calls) path
+    → (old.tells ≡ true → IsLockRead old.file_at current (given args.lock_file) lock)
+    → IsUpgradeResult due HasFields HasDecodedValue mid new (delivery_by args current plan s.target path lock)
+    → old.tells ≡ true → IsUpgraded due HasFields HasDecodedValue args (run_at current home local old new)
+upgraded due HasFields HasDecodedValue args current home local old mid new s plan path lock reads read planned at locked answered
     t =
-    let d = delivery_by words current plan s.target path lock in
+    let d = delivery_by args current plan s.target path lock in
     record {
       sources = s;
       plan = plan;
@@ -133,8 +133,8 @@ upgraded due HasFields HasDecodedValue words current home local old mid new s pl
       ends = record {
         is = answered.is;
         delivered = record {
-          told = told_after AreBothWritten HasFields d old mid new
-              (λ first last. behind_after AreWritten first last old mid new reads) answered.delivered.told;
+          printed = printed_after AreBothWritten HasFields d old mid new
+              (λ first last. behind_after AreWritten first last old mid new reads) answered.delivered.printed;
           complete = answered.delivered.complete;
         };
         says = answered.says;
@@ -144,26 +144,26 @@ upgraded due HasFields HasDecodedValue words current home local old mid new s pl
 cut_after : (HasFields : List ℕ → Type 0) (d : Delivery) (old mid new : StoreView) → OnlyReads old mid
     → IsDeliveryInterrupted HasFields d mid new → IsDeliveryInterrupted HasFields d old new
 cut_after HasFields d old mid new reads (inl stopped) =
-    inl (told_after HaveStopped HasFields d old mid new
+    inl (printed_after HaveStopped HasFields d old mid new
     (λ first last. all_stopped_after first last old mid new reads) stopped)
 cut_after HasFields d old mid new reads (inr whole) =
-    inr (told_after AreBothWritten HasFields d old mid new
+    inr (printed_after AreBothWritten HasFields d old mid new
     (λ first last. behind_after AreWritten first last old mid new reads) whole)
 
 -- and one whose delivery was refused
-pub broken : (HasFields : List ℕ → Type 0) (words : UpgradeArgs) (current : List ℕ)
+pub broken : (HasFields : List ℕ → Type 0) (args : UpgradeArgs) (current : List ℕ)
     (home : Option (List ℕ)) (local old mid new : StoreView) (s : Sources) (plan : UpgradePlan)
     (path : Option (List ℕ)) (lock : Option (List Package)) → OnlyReads old mid
-    → (old.tells ≡ true → IsRead words current home old.file_at s) → IsPlannedFor words s local plan
-    → IsPathOf current (given words.update_calls) path
-    → (old.tells ≡ true → IsLockRead old.file_at current (given words.lock_file) lock)
+    → (old.tells ≡ true → IsRead args current home old.file_at s) → IsPlannedFor args s local plan
+    → IsPathOf current (given args.update_calls) path
+    → (old.tells ≡ true → IsLockRead old.file_at current (given args.lock_file) lock)
     → SameFiles mid.file_at new.file_at
-    ⊎ IsDeliveryInterrupted HasFields (delivery_by words current plan s.target path lock) mid new
+    ⊎ IsDeliveryInterrupted HasFields (delivery_by args current plan s.target path lock) mid new
     → old.tells ≡ true
-    → SameFiles old.file_at new.file_at ⊎ IsBroken HasFields words (run_at current home local old new)
-broken HasFields words current home local old mid new s plan path lock reads read planned at locked (inl kept) t =
-    inl (λ file. kept file ∙ reads.files file)
-broken HasFields words current home local old mid new s plan path lock reads read planned at locked (inr cut) t =
+    → SameFiles old.file_at new.file_at ⊎ IsBroken HasFields args (run_at current home local old new)
+broken HasFields args current home local old mid new s plan path lock reads read planned at locked (inl unchanged) t =
+    inl (λ file. unchanged file ∙ reads.files file)
+broken HasFields args current home local old mid new s plan path lock reads read planned at locked (inr cut) t =
     inr (record {
       sources = s;
       plan = plan;
@@ -173,40 +173,40 @@ broken HasFields words current home local old mid new s plan path lock reads rea
       planned = planned;
       at = at;
       locked = locked t;
-      ends = cut_after HasFields (delivery_by words current plan s.target path lock) old mid new reads cut;
+      ends = cut_after HasFields (delivery_by args current plan s.target path lock) old mid new reads cut;
     })
 
 -- ---- causes
 
 -- what the arguments name is not read
-pub read_cause : (HasFields : List ℕ → Type 0) (words : UpgradeArgs) (current : List ℕ) (home : Option (List ℕ))
+pub read_cause : (HasFields : List ℕ → Type 0) (args : UpgradeArgs) (current : List ℕ) (home : Option (List ℕ))
     (local old new : StoreView) (e : Error) → SameFiles old.file_at new.file_at
-    → IsReadCause current home (to_request words) old new e
-    → IsUpgradeCause HasFields words (run_at current home local old new) e
-read_cause HasFields words current home local old new e same (inl failed) = inr (inl (same, failed))
-read_cause HasFields words current home local old new e same (inr wrong) =
+    → IsReadCause current home (to_request args) old new e
+    → IsUpgradeCause HasFields args (run_at current home local old new) e
+read_cause HasFields args current home local old new e same (inl failed) = inr (inl (same, failed))
+read_cause HasFields args current home local old new e same (inr wrong) =
     inr (inr (inr (inr (λ t. inl (same, inr (inl (wrong t)))))))
 
 -- nor its lock file
-pub lock_cause : (HasFields : List ℕ → Type 0) (words : UpgradeArgs) (current : List ℕ) (home : Option (List ℕ))
+pub lock_cause : (HasFields : List ℕ → Type 0) (args : UpgradeArgs) (current : List ℕ) (home : Option (List ℕ))
     (local old new : StoreView) (e : Error) → SameFiles old.file_at new.file_at
-    → IsReadCause current home (to_request words) old new e
-    ⊎ (old.tells ≡ true → HasNoLock old.file_at current (given words.lock_file) e)
-    → IsUpgradeCause HasFields words (run_at current home local old new) e
-lock_cause HasFields words current home local old new e same (inl cause) =
-    read_cause HasFields words current home local old new e same cause
-lock_cause HasFields words current home local old new e same (inr none) =
+    → IsReadCause current home (to_request args) old new e
+    ⊎ (old.tells ≡ true → HasNoLock old.file_at current (given args.lock_file) e)
+    → IsUpgradeCause HasFields args (run_at current home local old new) e
+lock_cause HasFields args current home local old new e same (inl cause) =
+    read_cause HasFields args current home local old new e same cause
+lock_cause HasFields args current home local old new e same (inr none) =
     inr (inr (inr (inr (λ t. inl (same, inl (none t))))))
 
 -- there is no plan for it
-pub plan_cause : (HasFields : List ℕ → Type 0) (words : UpgradeArgs) (current : List ℕ) (home : Option (List ℕ))
+pub plan_cause : (HasFields : List ℕ → Type 0) (args : UpgradeArgs) (current : List ℕ) (home : Option (List ℕ))
     (local old new : StoreView) (s : Sources) (e : Error) → SameFiles old.file_at new.file_at
-    → (old.tells ≡ true → IsRead words current home old.file_at s)
-    → IsMemory e ⊎ IsPlanCause words.options s.target.inputs.items (lists_for s.configs)
+    → (old.tells ≡ true → IsRead args current home old.file_at s)
+    → IsMemory e ⊎ IsPlanCause args.options s.target.inputs.items (lists_for s.configs)
     (index_view s.index local) e
-    → IsUpgradeCause HasFields words (run_at current home local old new) e
-plan_cause HasFields words current home local old new s e same read (inl memory) = inl memory
-plan_cause HasFields words current home local old new s e same read (inr wrong) =
+    → IsUpgradeCause HasFields args (run_at current home local old new) e
+plan_cause HasFields args current home local old new s e same read (inl memory) = inl memory
+plan_cause HasFields args current home local old new s e same read (inr wrong) =
     inr (inr (inr (inr (λ t. inl (
       same,
       inr (inr (record {
@@ -223,28 +223,28 @@ stopped_later : (HasFields : List ℕ → Type 0) (d : Delivery) (old mid new : 
 stopped_later HasFields d old mid new e reads (inl held) =
     inl ((λ path. held.0 path ∙ reads.files path), held.1)
 stopped_later HasFields d old mid new e reads (inr lacks) = inr (
-  told_after AreBothWritten HasFields d old mid new
+  printed_after AreBothWritten HasFields d old mid new
       (λ first last. behind_after AreWritten first last old mid new reads) lacks.0,
   lacks.1,
 )
 
 -- the plan is not delivered
-pub stop_cause : (HasFields : List ℕ → Type 0) (words : UpgradeArgs) (current : List ℕ) (home : Option (List ℕ))
+pub stop_cause : (HasFields : List ℕ → Type 0) (args : UpgradeArgs) (current : List ℕ) (home : Option (List ℕ))
     (local old mid new : StoreView) (s : Sources) (plan : UpgradePlan) (path : Option (List ℕ))
     (lock : Option (List Package)) (e : Error)
     → OnlyReads old mid
-    → (old.tells ≡ true → IsRead words current home old.file_at s) → IsPlannedFor words s local plan
-    → IsPathOf current (given words.update_calls) path
-    → (old.tells ≡ true → IsLockRead old.file_at current (given words.lock_file) lock)
-    → IsDeliveryCause HasFields (delivery_by words current plan s.target path lock) mid new e
-    → IsUpgradeCause HasFields words (run_at current home local old new) e
-stop_cause HasFields words current home local old mid new s plan path lock e reads read planned at locked
+    → (old.tells ≡ true → IsRead args current home old.file_at s) → IsPlannedFor args s local plan
+    → IsPathOf current (given args.update_calls) path
+    → (old.tells ≡ true → IsLockRead old.file_at current (given args.lock_file) lock)
+    → IsDeliveryCause HasFields (delivery_by args current plan s.target path lock) mid new e
+    → IsUpgradeCause HasFields args (run_at current home local old new) e
+stop_cause HasFields args current home local old mid new s plan path lock e reads read planned at locked
     (inl refused) =
     inr (inr (inl (refused_on call.Write old mid new e reads refused)))
-stop_cause HasFields words current home local old mid new s plan path lock e reads read planned at locked
+stop_cause HasFields args current home local old mid new s plan path lock e reads read planned at locked
     (inr (inl unwritten)) =
     inr (inr (inr (inl unwritten)))
-stop_cause HasFields words current home local old mid new s plan path lock e reads read planned at locked
+stop_cause HasFields args current home local old mid new s plan path lock e reads read planned at locked
     (inr (inr stopped)) =
     inr (inr (inr (inr (λ t. inr (record {
       sources = s;
@@ -255,5 +255,5 @@ stop_cause HasFields words current home local old mid new s plan path lock e rea
       planned = planned;
       at = at;
       locked = locked t;
-      ends = stopped_later HasFields (delivery_by words current plan s.target path lock) old mid new e reads stopped;
+      ends = stopped_later HasFields (delivery_by args current plan s.target path lock) old mid new e reads stopped;
     })))))

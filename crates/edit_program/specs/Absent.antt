@@ -9,16 +9,16 @@ use Rattle.edit_upgrade.specs.declared.upgrade.UpgradePlan.{UpgradePlan}
 
 -- whether the index has no entry for a crate, and its name is not excluded (own)
 abbrev pub is_absent : (List ℕ → Bool) → Look → Bool
-is_absent is_excluded look = is_none look.answer && not (is_excluded (string_bytes look.name))
+is_absent is_excluded lookup = is_none lookup.answer && not (is_excluded (string_bytes lookup.name))
 
 -- the name of a crate that the index does not have and that is not excluded, as a list (own)
 abbrev pub absent_at : (List ℕ → Bool) → Look → List (List ℕ)
-absent_at is_excluded look = if is_absent is_excluded look then string_bytes look.name ∷ [] else []
+absent_at is_excluded lookup = if is_absent is_excluded lookup then string_bytes lookup.name ∷ [] else []
 
 -- the names of the crates that the index does not have and that are not excluded, in the order of the
 -- lookups (own)
 abbrev pub absent_names : (List ℕ → Bool) → List Look → List (List ℕ)
-absent_names is_excluded looks = flat_map (absent_at is_excluded) looks
+absent_names is_excluded lookups = flat_map (absent_at is_excluded) lookups
 
 -- names as the note lists them: at most five, and the number of the others (own)
 abbrev pub abbreviate_names : List (List ℕ) → List ℕ

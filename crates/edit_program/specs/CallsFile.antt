@@ -8,7 +8,7 @@ use Rattle.edit_upgrade.specs.UpdateCalls.{Call}
 
 -- an argument as a line
 abbrev pub arg_line : List ℕ → List ℕ
-arg_line word = word ++ 10 ∷ []
+arg_line arg = arg ++ 10 ∷ []
 
 -- a call: one argument a line, then an empty line
 abbrev pub call_lines : Call → List ℕ

@@ -7,7 +7,7 @@ use Rattle.edit_program.specs.SetVersions.{AreVersionsSet, IsSettingInterrupted}
 use Rattle.edit_program.specs.declared.set_version_run.set_version_args.SetVersionArgs.{SetVersionArgs}
 use Rattle.edit_store.specs.Store.{SameFiles, StoreView}
 use Rattle.edit_program.specs.UpgradeCauses.{IsLookupsCause, IsUpgradeCause}
-use Rattle.edit_program.specs.Looking.{AreLookupsPrinted}
+use Rattle.edit_program.specs.PrintedLookups.{AreLookupsPrinted}
 use Rattle.edit_program.specs.Upgrading.{IsBroken, IsUpgraded}
 use Rattle.edit_program.specs.declared.upgrade_run.upgrade_args.UpgradeArgs.{UpgradeArgs}
 use Rattle.edit_program.specs.Presented.{status_after}
@@ -20,39 +20,39 @@ use Rattle.edit_program.specs.ParsedSetVersion.{HasSetVersionArgs, HaveVersionFa
 pub record HasUpgraded (rows : List Row) (status : ℕ)
     (Prints Reports : List ℕ → Type 0) (run : Run)
     : Type 0 where
-  pub asked : UpgradeArgs
-  pub asks : HasUpgradeArgs rows asked
+  pub args : UpgradeArgs
+  pub asks : HasUpgradeArgs rows args
   pub due : Bool
-  pub upgraded : IsUpgraded due Prints Reports asked run
+  pub upgraded : IsUpgraded due Prints Reports args run
   pub ends : status ≡ status_after rows due
 
 -- the upgrade of the selected manifests failed, at a write or after all of them
 pub record HasBroken (rows : List Row) (Prints : List ℕ → Type 0) (run : Run) : Type 0 where
-  pub asked : UpgradeArgs
-  pub asks : HasUpgradeArgs rows asked
-  pub broken : IsBroken Prints asked run
+  pub args : UpgradeArgs
+  pub asks : HasUpgradeArgs rows args
+  pub broken : IsBroken Prints args run
 
 -- the cause of an error of `upgrade` with these arguments
 pub record HasUpgradeCause (rows : List Row) (Prints : List ℕ → Type 0) (run : Run) (e : Error) : Type 0 where
-  pub asked : UpgradeArgs
-  pub asks : HasUpgradeArgs rows asked
-  pub cause : IsUpgradeCause Prints asked run e
+  pub args : UpgradeArgs
+  pub asks : HasUpgradeArgs rows args
+  pub cause : IsUpgradeCause Prints args run e
 
 -- the lookups that the upgrade needs are printed, and each file is unchanged
 pub record HasPrintedLookups (rows : List Row)
     (Prints : List ℕ → Type 0) (current : List ℕ) (home : Option (List ℕ))
     (old new : StoreView) : Type 0 where
-  pub asked : UpgradeArgs
-  pub asks : HasUpgradeArgs rows asked
-  pub looked : AreLookupsPrinted Prints asked current home old.file_at
+  pub args : UpgradeArgs
+  pub asks : HasUpgradeArgs rows args
+  pub printed : AreLookupsPrinted Prints args current home old.file_at
   pub unchanged : SameFiles old.file_at new.file_at
 
 -- the cause of an error of `looks` with these arguments; each file is unchanged
 pub record HasLookupsCause (rows : List Row) (current : List ℕ) (home : Option (List ℕ)) (old new : StoreView)
     (e : Error) : Type 0 where
-  pub asked : UpgradeArgs
-  pub asks : HasUpgradeArgs rows asked
-  pub cause : IsLookupsCause asked current home old new e
+  pub args : UpgradeArgs
+  pub asks : HasUpgradeArgs rows args
+  pub cause : IsLookupsCause args current home old new e
   pub unchanged : SameFiles old.file_at new.file_at
 
 -- the requested versions are set, after the plan is printed; the status is 1 where `--check` is given and
@@ -60,30 +60,30 @@ pub record HasLookupsCause (rows : List Row) (current : List ℕ) (home : Option
 pub record HasSetVersions (rows : List Row) (status : ℕ)
     (Prints Reports : List ℕ → Type 0) (current : List ℕ)
     (old new : StoreView) : Type 0 where
-  pub asked : SetVersionArgs
-  pub asks : HasSetVersionArgs rows asked
+  pub args : SetVersionArgs
+  pub asks : HasSetVersionArgs rows args
   pub due : Bool
-  pub set : AreVersionsSet Prints Reports asked current due old new
+  pub set : AreVersionsSet Prints Reports args current due old new
   pub ends : status ≡ status_after rows due
 
 -- the requested versions are planned and printed, but writing stopped at an output
 pub record HasStoppedSetting (rows : List Row) (Prints Reports : List ℕ → Type 0) (current : List ℕ)
     (old new : StoreView) : Type 0 where
-  pub asked : SetVersionArgs
-  pub asks : HasSetVersionArgs rows asked
-  pub stopped : IsSettingInterrupted Prints Reports asked current old new
+  pub args : SetVersionArgs
+  pub asks : HasSetVersionArgs rows args
+  pub stopped : IsSettingInterrupted Prints Reports args current old new
 
 -- the cause of an error of `set-version` with these arguments
 pub record HasSetVersionCause (rows : List Row) (current : List ℕ) (old new : StoreView) (e : Error)
     : Type 0 where
-  pub asked : SetVersionArgs
-  pub asks : HasSetVersionArgs rows asked
-  pub cause : IsSetVersionCause asked current old new e
+  pub args : SetVersionArgs
+  pub asks : HasSetVersionArgs rows args
+  pub cause : IsSetVersionCause args current old new e
 
 -- a subcommand that the program does not have
 pub record IsAnother (name : Text) : Type 0 where
   pub no_upgrade : name ≢ codes "upgrade"
-  pub no_looks : name ≢ codes "looks"
+  pub no_lookups : name ≢ codes "looks"
   pub no_set_version : name ≢ codes "set-version"
 
 -- a subcommand that the program does not have, or arguments that cannot be used

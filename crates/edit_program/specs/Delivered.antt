@@ -41,7 +41,7 @@ pub record IsWrittenAfterPrint (Leaves : List Output → List Output → StoreVi
 
 -- the plan is printed, its outputs and the file of the calls are written, and no name is missing
 pub record IsDelivered (Prints : List ℕ → Type 0) (d : Delivery) (old new : StoreView) : Type 0 where
-  pub told : IsWrittenAfterPrint AreBothWritten Prints d old new
+  pub printed : IsWrittenAfterPrint AreBothWritten Prints d old new
   pub complete : map string_bytes d.plan.missing.items ≡ []
 
 -- an error after the plan is printed: writing stopped, or everything is written

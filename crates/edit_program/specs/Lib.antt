@@ -8,11 +8,11 @@ pub mod Runs
 pub mod ParsedUpgrade
 pub mod ParsedSetVersion
 pub mod LockRead
-pub mod LookLines
+pub mod LookupLines
 pub mod Needed
 pub mod NoIndex
 pub mod UpgradeCauses
-pub mod Looking
+pub mod PrintedLookups
 pub mod Planned
 pub mod Upgrading
 pub mod SetVersionCauses
@@ -25,5 +25,5 @@ pub mod PrintedPlan
 pub mod CallsFile
 pub mod StderrText
 pub mod Delivered
-pub mod TellingCauses
+pub mod DeliveryCauses
 pub mod Counted

@@ -7,10 +7,10 @@ use Rattle.edit_base.specs.declared.errors.details.MergedCommand.TheVariants.{Ad
 
 -- the command of cargo that an argument names
 abbrev pub builtin_named : Text → Option MergedCommand
-builtin_named word =
-    if bytes_eq word (codes "add") then Some Add
-    else (if bytes_eq word (codes "rm") then Some Rm else None)
+builtin_named arg =
+    if bytes_eq arg (codes "add") then Some Add
+    else (if bytes_eq arg (codes "rm") then Some Rm else None)
 
 -- the command of cargo that the first argument names
 abbrev pub first_builtin : List Text → Option MergedCommand
-first_builtin words = option_and_then builtin_named (slice_get words 0)
+first_builtin args = option_and_then builtin_named (slice_get args 0)

@@ -3,7 +3,7 @@ use Rattle.std.specs.Prelude.{◌≡◌, ◌⊎◌, ◌||◌, ◌-◌, ℕ, ℤ,
 use Rattle.std.specs.Str.{bytes_eq}
 use Rattle.clap.specs.Words.{Row, Text, all_of, count_of, first_of}
 use Rattle.edit_upgrade.specs.declared.decision.options.Options.{Options}
-use Rattle.edit_upgrade.specs.Words.{excluded_of, package_args_of}
+use Rattle.edit_upgrade.specs.EntrySelection.{excluded_of, package_args_of}
 
 -- the value of an option of `upgrade`, or this default where it has none
 abbrev pub value_of : Text → Text → List Row → Text

@@ -16,18 +16,18 @@ use Rattle.edit_program.specs.declared.output_format.PlanCommand.TheVariants.{Se
 -- `release`
 abbrev pub IsTarget : Option Text → Option Text → Target → Type 0
 IsTarget None None target = target ≡ by_level Release
-IsTarget None (Some word) target =
-    (level : BumpLevel) × (word ≡ level_name level) × (target ≡ by_level level)
+IsTarget None (Some name) target =
+    (level : BumpLevel) × (name ≡ level_name level) × (target ≡ by_level level)
 IsTarget (Some text) None target =
     (parts : Parts) × (version_parts text ≡ Ok parts) × (target ≡ exactly parts)
-IsTarget (Some text) (Some word) target = ⊥
+IsTarget (Some text) (Some name) target = ⊥
 
 -- the arguments for a version and a level are wrong: the given one is invalid, or both are given
 abbrev pub HaveNoTarget : Option Text → Option Text → Type 0
 HaveNoTarget None None = ⊥
-HaveNoTarget None (Some word) = (level : BumpLevel) → word ≢ level_name level
+HaveNoTarget None (Some name) = (level : BumpLevel) → name ≢ level_name level
 HaveNoTarget (Some text) None = (e : Error) × (version_parts text ≡ Err e)
-HaveNoTarget (Some text) (Some word) = Unit {0}
+HaveNoTarget (Some text) (Some name) = Unit {0}
 
 -- two of `--package`, `--all` and `--workspace` are given
 abbrev pub has_conflicting_selections : List Row → Bool

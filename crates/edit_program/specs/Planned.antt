@@ -12,10 +12,10 @@ use Rattle.edit_sources.specs.declared.config.Config.{Config}
 use Rattle.edit_store.specs.Store.{StoreView}
 use Rattle.edit_upgrade.specs.Caches.{CacheView}
 use Rattle.edit_upgrade.specs.Causes.{IsCause}
-use Rattle.edit_upgrade.specs.Looks.{AddsNeeded, CachedAnswers}
+use Rattle.edit_upgrade.specs.Lookups.{AddsNeeded, CachedAnswers}
 use Rattle.edit_upgrade.specs.Plans.{IsPlan}
 use Rattle.edit_upgrade.specs.Upgraded.{IsNeeded}
-use Rattle.edit_upgrade.specs.WordCauses.{IsPlanError}
+use Rattle.edit_upgrade.specs.OptionCauses.{IsPlanError}
 use Rattle.edit_upgrade.specs.declared.decision.options.Options.{Options}
 use Rattle.edit_upgrade.specs.declared.upgrade.UpgradePlan.{UpgradePlan}
 use Rattle.edit_steps.specs.RequestView.{RequestView, rust_request}
@@ -25,26 +25,26 @@ use Rattle.edit_program.specs.declared.upgrade_run.upgrade_args.UpgradeArgs.{Upg
 
 -- the files to read, from the arguments
 abbrev pub to_request : UpgradeArgs → RequestView
-to_request words = record {
-  manifest = given words.manifest_path;
-  metadata = given words.metadata_json;
-  index = given words.index_file;
-  index_dir = given words.index_dir;
-  config = given words.config;
-  default_config = given words.default_config;
-  rust = rust_request words.rust;
+to_request args = record {
+  manifest = given args.manifest_path;
+  metadata = given args.metadata_json;
+  index = given args.index_file;
+  index_dir = given args.index_dir;
+  config = given args.config;
+  default_config = given args.default_config;
+  rust = rust_request args.rust;
 }
 
 -- the files to read where only the lookups are requested: no index
 abbrev pub to_lookup_request : UpgradeArgs → RequestView
-to_lookup_request words = record {
-  manifest = given words.manifest_path;
-  metadata = given words.metadata_json;
+to_lookup_request args = record {
+  manifest = given args.manifest_path;
+  metadata = given args.metadata_json;
   index = None;
   index_dir = None;
-  config = given words.config;
-  default_config = given words.default_config;
-  rust = rust_request words.rust;
+  config = given args.config;
+  default_config = given args.default_config;
+  rust = rust_request args.rust;
 }
 
 -- the index of an upgrade: the lines of the index file, the index folder, or the index in files; the last
@@ -60,22 +60,22 @@ empty_answers address name = None
 
 -- the view of a cache: an index, and cached answers
 abbrev pub cache_over : IndexView → CachedAnswers → CacheView
-cache_over view kept = record { gives = view.gives; faults = view.faults; kept = kept }
+cache_over view cached = record { gives = view.gives; faults = view.faults; cached = cached }
 
 -- the plan for inputs with their configurations over an index, with an empty cache
 pub record IsPlanned (o : Options) (inputs : List Input) (configs : List (Vec Config)) (view : IndexView)
     (plan : UpgradePlan) : Type 0 where
-  pub kept : CachedAnswers
-  pub is : IsPlan o inputs configs (cache_over view empty_answers) (cache_over view kept) plan
+  pub cached : CachedAnswers
+  pub is : IsPlan o inputs configs (cache_over view empty_answers) (cache_over view cached) plan
 
 -- the error of a plan at the first input that is no manifest, or that has an entry whose registry has no
 -- address or whose lookup fails; each answer that is cached by then is needed, and the index gives it
 pub record IsPlanStopped (inputs : List Input) (configs : List (Vec Config)) (view : IndexView) (e : Error)
     : Type 0 where
-  pub kept : CachedAnswers
-  pub adds : AddsNeeded (IsNeeded inputs configs) view.gives empty_answers kept
+  pub cached : CachedAnswers
+  pub adds : AddsNeeded (IsNeeded inputs configs) view.gives empty_answers cached
   pub faults : ℕ
-  pub cause : IsCause inputs configs view.gives empty_answers kept view.faults faults e
+  pub cause : IsCause inputs configs view.gives empty_answers cached view.faults faults e
 
 -- the cause of an error of a plan: its options, or an input
 abbrev pub IsPlanCause : Options → List Input → List (Vec Config) → IndexView → Error → Type 0

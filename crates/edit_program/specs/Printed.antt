@@ -29,10 +29,10 @@ statuses_in Markdown lines = statuses lines
 
 -- on standard error: the warning for `--all`, the lines, and the warning of a dry run
 abbrev pub set_version_stderr_text : SetVersionArgs → List ReportLine → List ℕ
-set_version_stderr_text words lines =
-    warning_if words.all (codes "The flag `--all` has been deprecated in favor of `--workspace`")
-    ++ (statuses_in words.presentation.format lines
-    ++ warning_if words.dry_run (codes "aborting set-version due to dry run"))
+set_version_stderr_text args lines =
+    warning_if args.all (codes "The flag `--all` has been deprecated in favor of `--workspace`")
+    ++ (statuses_in args.presentation.format lines
+    ++ warning_if args.dry_run (codes "aborting set-version due to dry run"))
 
 -- the lines as messages
 abbrev pub messages_in : MessageFormat → List ReportLine → List ℕ
@@ -42,10 +42,10 @@ messages_in Markdown lines = []
 
 -- the diffs of the manifests, where they are requested
 abbrev pub diffs_if : Bool → List ℕ → List Input → List Output → List ℕ
-diffs_if asked root inputs outputs = if asked then diffs root inputs outputs else []
+diffs_if wants_diff root inputs outputs = if wants_diff then diffs root inputs outputs else []
 
 -- on standard output: the lines as messages and the diffs of the manifests, where they are requested
 abbrev pub set_version_stdout_text : SetVersionArgs → List ℕ → List Input → SetVersionPlan → List ℕ
-set_version_stdout_text words root inputs plan =
-    messages_in words.presentation.format (plan_lines_view plan)
-    ++ diffs_if words.presentation.diff root inputs plan.outputs.items
+set_version_stdout_text args root inputs plan =
+    messages_in args.presentation.format (plan_lines_view plan)
+    ++ diffs_if args.presentation.diff root inputs plan.outputs.items

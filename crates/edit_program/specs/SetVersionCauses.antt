@@ -14,26 +14,26 @@ use Rattle.edit_program.specs.SetVersions.{IsRead}
 use Rattle.edit_program.specs.declared.set_version_run.set_version_args.SetVersionArgs.{SetVersionArgs}
 
 -- the workspace was read, and planning fails
-pub record HasNoPlan (words : SetVersionArgs) (current : List ℕ) (files : Files) (e : Error) : Type 0 where
+pub record HasNoPlan (args : SetVersionArgs) (current : List ℕ) (files : Files) (e : Error) : Type 0 where
   pub workspace : WorkspaceModel
   pub inputs : List Input
-  pub read : IsRead words current files workspace inputs
-  pub cause : IsCauseOf (target_of words.target) (selection_view words.selection) workspace inputs e
+  pub read : IsRead args current files workspace inputs
+  pub cause : IsCauseOf (target_of args.target) (selection_view args.selection) workspace inputs e
 
 -- the cause in the files: reading the workspace fails, or planning does
 abbrev pub FailsAtSources : SetVersionArgs → List ℕ → Files → Error → Type 0
-FailsAtSources words current files e =
-    HasNoWorkspace files current words.metadata_json.now e ⊎ HasNoPlan words current files e
+FailsAtSources args current files e =
+    HasNoWorkspace files current args.metadata_json.now e ⊎ HasNoPlan args current files e
 
 -- the cause of an error before any write: out of memory, a device error in a read, which is counted, a
 -- failed print, or the files
 abbrev pub IsUnset : SetVersionArgs → List ℕ → StoreView → StoreView → Error → Type 0
-IsUnset words current old new e =
+IsUnset args current old new e =
     IsCallError call.Read old new e
-    ⊎ ((e ≡ Unwritten) ⊎ (old.tells ≡ true → FailsAtSources words current old.file_at e))
+    ⊎ ((e ≡ Unwritten) ⊎ (old.tells ≡ true → FailsAtSources args current old.file_at e))
 
 -- the cause of an error of `set-version`: out of memory or a device error in a write, or nothing is written
 -- and each file is unchanged
 abbrev pub IsSetVersionCause : SetVersionArgs → List ℕ → StoreView → StoreView → Error → Type 0
-IsSetVersionCause words current old new e =
-    IsCallError call.Write old new e ⊎ (SameFiles old.file_at new.file_at × IsUnset words current old new e)
+IsSetVersionCause args current old new e =
+    IsCallError call.Write old new e ⊎ (SameFiles old.file_at new.file_at × IsUnset args current old new e)

@@ -21,11 +21,11 @@ no_rust = record { given = None; ignored = true }
 
 -- the given workspace was read, with its manifests
 abbrev pub IsRead : SetVersionArgs → List ℕ → Files → WorkspaceModel → List Input → Type 0
-IsRead words current files w is = IsWorkspaceRead files current words.metadata_json.now no_rust w is
+IsRead args current files w is = IsWorkspaceRead files current args.metadata_json.now no_rust w is
 
 -- the outputs to write: none with a dry run
 abbrev pub outputs_to_write : SetVersionArgs → List Output → List Output
-outputs_to_write words outputs = if words.dry_run then [] else outputs
+outputs_to_write args outputs = if args.dry_run then [] else outputs
 
 -- whether a plan has an output
 abbrev pub has_some : List Output → Bool
@@ -34,34 +34,34 @@ has_some outputs = not (length outputs == 0)
 -- the workspace was read, the plan was made and printed, and this holds of its outputs
 pub record IsPlannedTo (Leaves : List Output → StoreView → StoreView → Type 0)
     (Prints Reports : List ℕ → Type 0)
-    (words : SetVersionArgs) (current : List ℕ) (old new : StoreView) : Type 0 where
+    (args : SetVersionArgs) (current : List ℕ) (old new : StoreView) : Type 0 where
   pub workspace : WorkspaceModel
   pub inputs : List Input
   pub plan : SetVersionPlan
-  pub read : IsRead words current old.file_at workspace inputs
-  pub planned : IsVersionPlan (target_of words.target) (selection_view words.selection) workspace inputs plan
-  pub shows : Prints (set_version_stdout_text words workspace.root inputs plan)
-  pub tells : Reports (set_version_stderr_text words (plan_lines_view plan))
+  pub read : IsRead args current old.file_at workspace inputs
+  pub planned : IsVersionPlan (target_of args.target) (selection_view args.selection) workspace inputs plan
+  pub shows : Prints (set_version_stdout_text args workspace.root inputs plan)
+  pub tells : Reports (set_version_stderr_text args (plan_lines_view plan))
   pub leaves : Leaves plan.outputs.items old new
 
 -- the outputs are written, none with a dry run; the flag is set where there are outputs
 abbrev pub AreDelivered : SetVersionArgs → Bool → List Output → StoreView → StoreView → Type 0
-AreDelivered words due outputs old new = AreWritten (outputs_to_write words outputs) old new
+AreDelivered args due outputs old new = AreWritten (outputs_to_write args outputs) old new
     × (due ≡ has_some outputs)
 
 -- the writing stopped at an output
 abbrev pub HasStoppedAt : SetVersionArgs → List Output → StoreView → StoreView → Type 0
-HasStoppedAt words outputs old new = HasStopped (outputs_to_write words outputs) old new
+HasStoppedAt args outputs old new = HasStopped (outputs_to_write args outputs) old new
 
 -- each output of the plan is in its file, and no other file changed; `due` is set where the plan has an
 -- output
 abbrev pub AreVersionsSet : (List ℕ → Type 0) → (List ℕ → Type 0) → SetVersionArgs → List ℕ → Bool
     → StoreView → StoreView → Type 0
-AreVersionsSet Prints Reports words current due old new =
-    IsPlannedTo (AreDelivered words due) Prints Reports words current old new
+AreVersionsSet Prints Reports args current due old new =
+    IsPlannedTo (AreDelivered args due) Prints Reports args current old new
 
 -- writing stopped at an output: the files of those before it are whole, and those after it unchanged
 abbrev pub IsSettingInterrupted : (List ℕ → Type 0) → (List ℕ → Type 0) → SetVersionArgs → List ℕ
     → StoreView → StoreView → Type 0
-IsSettingInterrupted Prints Reports words current old new =
-    IsPlannedTo (HasStoppedAt words) Prints Reports words current old new
+IsSettingInterrupted Prints Reports args current old new =
+    IsPlannedTo (HasStoppedAt args) Prints Reports args current old new

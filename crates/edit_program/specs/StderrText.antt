@@ -64,7 +64,7 @@ input_reports verbosity warnings inputs n = flat_map (input_report_at verbosity 
 
 -- the status line of a call of cargo, with its arguments
 abbrev pub call_status : Call → List ℕ
-call_status call = message_text true (codes "Run") (join_by (λ word. word) (codes " ") call)
+call_status call = message_text true (codes "Run") (join_by (λ arg. arg) (codes " ") call)
 
 -- the calls
 abbrev pub call_statuses : List Call → List ℕ

@@ -19,50 +19,50 @@ use Rattle.edit_program.specs.Planned.{IsPlanCause, to_request, to_lookup_reques
 use Rattle.edit_program.specs.Run.{Run}
 use Rattle.edit_program.specs.Upgrading.{IsPlannedTo}
 use Rattle.edit_program.specs.declared.upgrade_run.upgrade_args.UpgradeArgs.{UpgradeArgs}
-use Rattle.edit_program.specs.TellingCauses.{IsStopped}
+use Rattle.edit_program.specs.DeliveryCauses.{IsStopped}
 
 -- the given files were read, and planning over their index fails
-pub record HasNoPlan (options : Options) (view : Sources → IndexView) (asked : RequestView) (current : List ℕ)
+pub record HasNoPlan (options : Options) (view : Sources → IndexView) (request : RequestView) (current : List ℕ)
     (home : Option (List ℕ)) (files : Files) (e : Error) : Type 0 where
   pub sources : Sources
-  pub read : AreRead files current home asked sources
+  pub read : AreRead files current home request sources
   pub cause : IsPlanCause options sources.target.inputs.items (lists_for sources.configs) (view sources) e
 
 -- the cause of an error before there is a plan: reading the lock file or another file fails, or planning
 -- does
 abbrev pub IsUnplanned : UpgradeArgs → List ℕ → Option (List ℕ) → StoreView → Files → Error → Type 0
-IsUnplanned words current home local files e =
-    HasNoLock files current (given words.lock_file) e
-    ⊎ (HasBadSources files current home (to_request words) e
-    ⊎ HasNoPlan words.options (λ s. index_view s.index local) (to_request words) current home files e)
+IsUnplanned args current home local files e =
+    HasNoLock files current (given args.lock_file) e
+    ⊎ (HasBadSources files current home (to_request args) e
+    ⊎ HasNoPlan args.options (λ s. index_view s.index local) (to_request args) current home files e)
 
 -- the cause in the given files: there is no plan, and each file is unchanged; or the plan is not carried
 -- out
 abbrev pub IsUnfit : (List ℕ → Type 0) → UpgradeArgs → Run → Error → Type 0
-IsUnfit Prints words run e =
+IsUnfit Prints args run e =
     (SameFiles run.old.file_at run.new.file_at
-    × IsUnplanned words run.current run.home run.index_files run.old.file_at e)
-    ⊎ IsPlannedTo (λ d. IsStopped Prints d run.old run.new e) words run.current run.home run.index_files
+    × IsUnplanned args run.current run.home run.index_files run.old.file_at e)
+    ⊎ IsPlannedTo (λ d. IsStopped Prints d run.old run.new e) args run.current run.home run.index_files
     run.old.file_at
 
 -- the cause of an error of `upgrade`: out of memory; a device error in a read, and each file is unchanged;
 -- one in a write; a failed print; or the given files
 abbrev pub IsUpgradeCause : (List ℕ → Type 0) → UpgradeArgs → Run → Error → Type 0
-IsUpgradeCause Prints words run e =
+IsUpgradeCause Prints args run e =
     IsMemory e
     ⊎ ((SameFiles run.old.file_at run.new.file_at × IsFailure run.old run.new e)
     ⊎ (IsCallError call.Write run.old run.new e
-    ⊎ ((e ≡ Unwritten) ⊎ (run.old.tells ≡ true → IsUnfit Prints words run e))))
+    ⊎ ((e ≡ Unwritten) ⊎ (run.old.tells ≡ true → IsUnfit Prints args run e))))
 
 -- the cause in the given files where only lookups are requested: reading them fails, or planning over an
 -- empty index does, as for an invalid name
 abbrev pub HasBadLookupInput : UpgradeArgs → List ℕ → Option (List ℕ) → Files → Error → Type 0
-HasBadLookupInput words current home files e =
-    HasBadSources files current home (to_lookup_request words) e
-    ⊎ HasNoPlan words.options (λ s. no_view) (to_lookup_request words) current home files e
+HasBadLookupInput args current home files e =
+    HasBadSources files current home (to_lookup_request args) e
+    ⊎ HasNoPlan args.options (λ s. no_view) (to_lookup_request args) current home files e
 
 -- the cause of an error of `looks`: out of memory or a device error, a failed print, or the given files
 abbrev pub IsLookupsCause : UpgradeArgs → List ℕ → Option (List ℕ) → StoreView → StoreView → Error → Type 0
-IsLookupsCause words current home old new e =
+IsLookupsCause args current home old new e =
     IsFailure old new e
-    ⊎ ((e ≡ Unwritten) ⊎ (old.tells ≡ true → HasBadLookupInput words current home old.file_at e))
+    ⊎ ((e ≡ Unwritten) ⊎ (old.tells ≡ true → HasBadLookupInput args current home old.file_at e))

@@ -22,12 +22,12 @@ use Rattle.edit_program.specs.StderrText.{upgrade_stderr_text}
 
 -- the given files were read
 abbrev pub IsRead : UpgradeArgs → List ℕ → Option (List ℕ) → Files → Sources → Type 0
-IsRead words current home files s = AreRead files current home (to_request words) s
+IsRead args current home files s = AreRead files current home (to_request args) s
 
 -- the plan for the files that were read, over their index
 abbrev pub IsPlannedFor : UpgradeArgs → Sources → StoreView → UpgradePlan → Type 0
-IsPlannedFor words s local plan =
-    IsPlanned words.options s.target.inputs.items (lists_for s.configs) (index_view s.index local) plan
+IsPlannedFor args s local plan =
+    IsPlanned args.options s.target.inputs.items (lists_for s.configs) (index_view s.index local) plan
 
 -- the absolute path of a given file; none where none is given
 abbrev pub IsPathOf : List ℕ → Option (List ℕ) → Option (List ℕ) → Type 0
@@ -44,30 +44,30 @@ diff_root current workspace = option_map_or (λ w. w.root) workspace current
 -- calls, which are adapted to the lock file with these packages, where there is one
 abbrev pub delivery_by : UpgradeArgs → List ℕ → UpgradePlan → Target → Option (List ℕ) → Option (List Package)
     → Delivery
-delivery_by words current plan target path lock = record {
+delivery_by args current plan target path lock = record {
   plan = plan;
   inputs = target.inputs.items;
-  options = words.options;
+  options = args.options;
   current = diff_root current (option_map workspace_view target.workspace);
-  presentation = words.presentation;
-  calls = calls_against lock words.offline
-      (calls_of plan words.options (option_map workspace_view target.workspace));
+  presentation = args.presentation;
+  calls = calls_against lock args.offline
+      (calls_of plan args.options (option_map workspace_view target.workspace));
   calls_path = path;
-  offline = words.offline;
+  offline = args.offline;
 }
 
 -- the given files were read and planned, and this holds of the plan with the request to print and write it
-pub record IsPlannedTo (Ends : Delivery → Type 0) (words : UpgradeArgs) (current : List ℕ)
+pub record IsPlannedTo (Ends : Delivery → Type 0) (args : UpgradeArgs) (current : List ℕ)
     (home : Option (List ℕ)) (local : StoreView) (files : Files) : Type 0 where
   pub sources : Sources
   pub plan : UpgradePlan
   pub path : Option (List ℕ)
   pub lock : Option (List Package)
-  pub read : IsRead words current home files sources
-  pub planned : IsPlannedFor words sources local plan
-  pub at : IsPathOf current (given words.update_calls) path
-  pub locked : IsLockRead files current (given words.lock_file) lock
-  pub ends : Ends (delivery_by words current plan sources.target path lock)
+  pub read : IsRead args current home files sources
+  pub planned : IsPlannedFor args sources local plan
+  pub at : IsPathOf current (given args.update_calls) path
+  pub locked : IsLockRead files current (given args.lock_file) lock
+  pub ends : Ends (delivery_by args current plan sources.target path lock)
 
 -- the plan changes a manifest
 abbrev pub has_outputs : UpgradePlan → Bool
@@ -85,12 +85,12 @@ pub record IsUpgradeResult (due : Bool)
 -- and no other file changed; the plan and the report on it are printed; the flag is set where the plan
 -- changes a manifest
 abbrev pub IsUpgraded : Bool → (List ℕ → Type 0) → (List ℕ → Type 0) → UpgradeArgs → Run → Type 0
-IsUpgraded due Prints Reports words run =
-    IsPlannedTo (IsUpgradeResult due Prints Reports run.old run.new) words run.current run.home run.index_files
+IsUpgraded due Prints Reports args run =
+    IsPlannedTo (IsUpgradeResult due Prints Reports run.old run.new) args run.current run.home run.index_files
     run.old.file_at
 
 -- an upgrade failed at a write, or after one
 abbrev pub IsBroken : (List ℕ → Type 0) → UpgradeArgs → Run → Type 0
-IsBroken Prints words run =
-    IsPlannedTo (λ d. IsDeliveryInterrupted Prints d run.old run.new) words run.current run.home run.index_files
+IsBroken Prints args run =
+    IsPlannedTo (λ d. IsDeliveryInterrupted Prints d run.old run.new) args run.current run.home run.index_files
     run.old.file_at

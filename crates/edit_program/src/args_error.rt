@@ -1,6 +1,6 @@
 //! Errors of parsed arguments.
 ghost use Rattle.std.specs.Prelude.{◌≡◌};
-ghost use Rattle.edit_program.specs.declared.args_error.ArgsError.TheVariants as words;
+ghost use Rattle.edit_program.specs.declared.args_error.ArgsError.TheVariants as parse_error;
 
 use edit_base::Error;
 use std::alloc::AllocError;
@@ -36,8 +36,8 @@ impl fmt::Display for ArgsFault<'_> {
                     "invalid value '{text}' for '--rust-version <VER>': {error}"
                 )
             }
-            ArgsFault::Level(word, levels) => {
-                write!(f, "invalid value '{word}' for '--bump <LEVEL>': {levels}")
+            ArgsFault::Level(name, levels) => {
+                write!(f, "invalid value '{name}' for '--bump <LEVEL>': {levels}")
             }
             ArgsFault::Version(text, error) => {
                 write!(f, "invalid value '{text}' for '[TARGET]': {error}")
@@ -54,7 +54,7 @@ pub(crate) enum ArgsError<'a> {
 }
 
 impl<'a> From<AllocError> for ArgsError<'a> {
-    ghost from_gives = { λ _ e. e ≡ words.Memory };
+    ghost from_gives = { λ _ e. e ≡ parse_error.Memory };
 
     fn from(_error: AllocError) -> ArgsError<'a> {
         ArgsError::Memory

@@ -5,10 +5,10 @@ ghost use Rattle.edit_program.specs.Merged.{builtin_named, first_builtin};
 use edit_base::errors::MergedCommand;
 
 /// The command of cargo that an argument names.
-fn builtin_named(word: &str) -> Option<MergedCommand>
-    ensures { result ≡ builtin_named word.now }
+fn builtin_named(arg: &str) -> Option<MergedCommand>
+    ensures { result ≡ builtin_named arg.now }
 {
-    match word {
+    match arg {
         "add" => Some(MergedCommand::Add),
         "rm" => Some(MergedCommand::Rm),
         _ => None,
@@ -16,11 +16,11 @@ fn builtin_named(word: &str) -> Option<MergedCommand>
 }
 
 /// `add` or `rm`, if the first argument is one of them: cargo provides these itself.
-pub(crate) fn first_builtin(words: &[&str]) -> Option<MergedCommand>
-    ensures { result ≡ first_builtin (map (λ w. w.now) words.now) }
+pub(crate) fn first_builtin(args: &[&str]) -> Option<MergedCommand>
+    ensures { result ≡ first_builtin (map (λ w. w.now) args.now) }
 {
-    match words.first() {
-        Some(word) => builtin_named(word),
+    match args.first() {
+        Some(arg) => builtin_named(arg),
         None => None,
     }
 }

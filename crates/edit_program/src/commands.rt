@@ -62,17 +62,17 @@ fn run_upgrade<S: Store, T: Store + Drop, O: io::Write, E: io::Write>(
     ensures requested { IfOk result (λ s. s ≡ 1
         → is_given (codes "check") (rows_of (found_of matches.now)) ≡ true) }
 {
-    let words = match parse_upgrade_args(alloc, matches) {
-        Ok(words) => words,
+    let args = match parse_upgrade_args(alloc, matches) {
+        Ok(args) => args,
         Err(ArgsError::Memory) => return Err(RunError::from(Error::Memory)),
         Err(ArgsError::Fault(fault)) => return Ok(print_args_error(&fault, err)),
     };
-    let due = upgrade(alloc, &words, place, files, index_files, out, err)?;
+    let due = upgrade(alloc, &args, place, files, index_files, out, err)?;
     Ok(status_after(matches, due))
 }
 
 /// Runs `looks`, which prints the lookups that an upgrade needs, and returns its exit status.
-fn run_looks<S: Store, O: io::Write, E: io::Write>(
+fn run_lookups<S: Store, O: io::Write, E: io::Write>(
     alloc: Global,
     matches: &ArgMatches<'_>,
     current: &str,
@@ -94,12 +94,12 @@ fn run_looks<S: Store, O: io::Write, E: io::Write>(
     ensures counted { IfErr result (λ r. CountsFault (S.view files.old) (S.view files.new) r.error) }
     ensures requested { IfOk result (λ s. s ≢ 1) }
 {
-    let words = match parse_upgrade_args(alloc, matches) {
-        Ok(words) => words,
+    let args = match parse_upgrade_args(alloc, matches) {
+        Ok(args) => args,
         Err(ArgsError::Memory) => return Err(RunError::from(Error::Memory)),
         Err(ArgsError::Fault(fault)) => return Ok(print_args_error(&fault, err)),
     };
-    print_lookups(alloc, &words, current, cargo_home, files, out)?;
+    print_lookups(alloc, &args, current, cargo_home, files, out)?;
     Ok(0)
 }
 
@@ -134,12 +134,12 @@ fn run_set_version<S: Store, O: io::Write, E: io::Write>(
     ensures requested { IfOk result (λ s. s ≡ 1
         → is_given (codes "check") (rows_of (found_of matches.now)) ≡ true) }
 {
-    let words = match parse_set_version_args(alloc, matches) {
-        Ok(words) => words,
+    let args = match parse_set_version_args(alloc, matches) {
+        Ok(args) => args,
         Err(ArgsError::Memory) => return Err(RunError::from(Error::Memory)),
         Err(ArgsError::Fault(fault)) => return Ok(print_args_error(&fault, err)),
     };
-    let due = set_version(alloc, &words, current, files, out, err)?;
+    let due = set_version(alloc, &args, current, files, out, err)?;
     Ok(status_after(matches, due))
 }
 
@@ -187,7 +187,7 @@ pub(crate) fn run_subcommand<S: Store, T: Store + Drop, O: io::Write, E: io::Wri
         "upgrade" => run_upgrade(alloc, matches, place, files, index_files, out, err),
         "looks" => {
             let (current, home) = (place.current, place.cargo_home);
-            run_looks(alloc, matches, current, home, files, out, err)
+            run_lookups(alloc, matches, current, home, files, out, err)
         }
         "set-version" => run_set_version(alloc, matches, place.current, files, out, err),
         _ => Ok(2),

@@ -14,22 +14,22 @@ use std::io;
 
 /// Adds the place `standard output` to `Error::Output`: an error of standard error cannot be printed
 /// anyway. Other errors are unchanged.
-fn at_stream(alloc: Global, refusal: RunError) -> RunError
-    ensures { result.error ≡ refusal.error }
+fn at_stream(alloc: Global, failure: RunError) -> RunError
+    ensures { result.error ≡ failure.error }
 {
-    if !matches!(&refusal.error, Error::Output) {
-        return refusal;
+    if !matches!(&failure.error, Error::Output) {
+        return failure;
     }
     let place = String::from_str(alloc, "standard output").ok();
-    RunError { place, ..refusal }
+    RunError { place, ..failure }
 }
 
 /// Prints an error with its place, cause and help, where they are known, and returns the exit status, even
 /// where printing fails.
-pub(crate) fn print_failure<E: io::Write>(alloc: Global, refusal: RunError, err: &mut E) -> u8
+pub(crate) fn print_failure<E: io::Write>(alloc: Global, failure: RunError, err: &mut E) -> u8
     ensures { result ≡ 1 }
 {
-    let _ = print_error(alloc, &at_stream(alloc, refusal), err);
+    let _ = print_error(alloc, &at_stream(alloc, failure), err);
     1
 }
 

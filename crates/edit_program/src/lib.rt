@@ -5,7 +5,7 @@ mod args_error;
 mod cargo_builtin;
 mod commands;
 mod faults;
-mod looks;
+mod lookup_lines;
 mod lookups;
 mod output_format;
 mod program;

@@ -23,7 +23,7 @@ use std::io;
 /// Parses arguments in which all options have values, and runs the subcommand: an exit status, or an error.
 fn parse_and_run<S: Store, T: Store + Drop, O: io::Write, E: io::Write>(
     alloc: Global,
-    words: &[&str],
+    args: &[&str],
     place: &RunFolders<'_>,
     files: &mut S,
     index_files: T,
@@ -32,32 +32,32 @@ fn parse_and_run<S: Store, T: Store + Drop, O: io::Write, E: io::Write>(
 ) -> RunResult<u8>
     ensures status { IfOk result (λ s. s ≤ 2) }
     ensures answered { IfOk result (λ s. s ≡ 2 → files.new ≡ files.old) }
-    ensures builtin { (command : MergedCommand) → first_builtin (map (λ w. w.now) words.now) ≡ Some command
+    ensures builtin { (command : MergedCommand) → first_builtin (map (λ w. w.now) args.now) ≡ Some command
         → IsErr result × (files.new ≡ files.old) }
-    ensures fault { IfOk result (λ s. s ≡ 2 → HasUsageError (map (λ w. w.now) words.now)) }
+    ensures fault { IfOk result (λ s. s ≡ 2 → HasUsageError (map (λ w. w.now) args.now)) }
     ensures ended { IfOk result (λ s. s ≢ 2 → (S.view files.old).tells ≡ true
-        → IsEnded (map (λ w. w.now) words.now) s (Appends (O.contents out.old) (O.contents out.new))
+        → IsEnded (map (λ w. w.now) args.now) s (Appends (O.contents out.old) (O.contents out.new))
         (Appends (E.contents err.old) (E.contents err.new))
         (run_at place.now.current.now (given place.now.cargo_home)
         (T.view index_files) (S.view files.old) (S.view files.new))) }
     ensures error { OnErr result ((S.view files.old).tells ≡ true
-        → IsRunFailure (map (λ w. w.now) words.now) (Appends (O.contents out.old) (O.contents out.new))
+        → IsRunFailure (map (λ w. w.now) args.now) (Appends (O.contents out.old) (O.contents out.new))
         (Appends (E.contents err.old) (E.contents err.new))
         (run_at place.now.current.now (given place.now.cargo_home)
         (T.view index_files) (S.view files.old) (S.view files.new))) }
-    ensures why { IfErr result (λ r. IsRunCause (map (λ w. w.now) words.now)
+    ensures why { IfErr result (λ r. IsRunCause (map (λ w. w.now) args.now)
         (Appends (O.contents out.old) (O.contents out.new))
         (run_at place.now.current.now (given place.now.cargo_home)
         (T.view index_files) (S.view files.old) (S.view files.new)) r.error) }
     ensures counted { IfErr result (λ r. CountsEitherFault T.view index_files
         (S.view files.old) (S.view files.new) r.error) }
-    ensures requested { IfOk result (λ s. s ≡ 1 → HasCheckFlag (map (λ w. w.now) words.now)) }
+    ensures requested { IfOk result (λ s. s ≡ 1 → HasCheckFlag (map (λ w. w.now) args.now)) }
 {
-    if let Some(command) = first_builtin(words) {
+    if let Some(command) = first_builtin(args) {
         return Err(RunError::from(Error::Merged(command)));
     }
     let command = command(alloc)?;
-    let matches = match command.try_get_matches_from(words) {
+    let matches = match command.try_get_matches_from(args) {
         Ok(matches) => matches,
         Err(error) => return print_clap_message(&error, out, err),
     };
@@ -72,7 +72,7 @@ fn parse_and_run<S: Store, T: Store + Drop, O: io::Write, E: io::Write>(
 /// Runs the program as `run` does, but returns an error in place of printing it.
 pub fn try_run<S: Store, T: Store + Drop, O: io::Write, E: io::Write>(
     alloc: Global,
-    words: &[&str],
+    args: &[&str],
     place: &RunFolders<'_>,
     files: &mut S,
     index_files: T,
@@ -82,32 +82,32 @@ pub fn try_run<S: Store, T: Store + Drop, O: io::Write, E: io::Write>(
     ensures status { IfOk result (λ s. s ≤ 2) }
     ensures answered { IfOk result (λ s. s ≡ 2 → files.new ≡ files.old) }
     ensures builtin { (command : MergedCommand)
-        → first_builtin (insert_defaults (map (λ w. w.now) words.now)) ≡ Some command
+        → first_builtin (insert_defaults (map (λ w. w.now) args.now)) ≡ Some command
         → IsErr result × (files.new ≡ files.old) }
-    ensures fault { IfOk result (λ s. s ≡ 2 → HasUsageError (insert_defaults (map (λ w. w.now) words.now))) }
+    ensures fault { IfOk result (λ s. s ≡ 2 → HasUsageError (insert_defaults (map (λ w. w.now) args.now))) }
     ensures ended { IfOk result (λ s. s ≢ 2 → (S.view files.old).tells ≡ true
-        → IsEnded (insert_defaults (map (λ w. w.now) words.now)) s (Appends (O.contents out.old)
+        → IsEnded (insert_defaults (map (λ w. w.now) args.now)) s (Appends (O.contents out.old)
         (O.contents out.new))
         (Appends (E.contents err.old) (E.contents err.new))
         (run_at place.now.current.now (given place.now.cargo_home)
         (T.view index_files) (S.view files.old) (S.view files.new))) }
     ensures error { OnErr result ((S.view files.old).tells ≡ true
-        → IsRunFailure (insert_defaults (map (λ w. w.now) words.now)) (Appends (O.contents out.old)
+        → IsRunFailure (insert_defaults (map (λ w. w.now) args.now)) (Appends (O.contents out.old)
         (O.contents out.new))
         (Appends (E.contents err.old) (E.contents err.new))
         (run_at place.now.current.now (given place.now.cargo_home)
         (T.view index_files) (S.view files.old) (S.view files.new))) }
-    ensures why { IfErr result (λ r. IsRunCause (insert_defaults (map (λ w. w.now) words.now))
+    ensures why { IfErr result (λ r. IsRunCause (insert_defaults (map (λ w. w.now) args.now))
         (Appends (O.contents out.old) (O.contents out.new))
         (run_at place.now.current.now (given place.now.cargo_home)
         (T.view index_files) (S.view files.old) (S.view files.new)) r.error) }
     ensures counted { IfErr result (λ r. CountsEitherFault T.view index_files
         (S.view files.old) (S.view files.new) r.error) }
     ensures requested { IfOk result (λ s. s ≡ 1
-        → HasCheckFlag (insert_defaults (map (λ w. w.now) words.now))) }
+        → HasCheckFlag (insert_defaults (map (λ w. w.now) args.now))) }
 {
-    let words = insert_defaults(alloc, words)?;
-    parse_and_run(alloc, words.as_slice(), place, files, index_files, out, err)
+    let args = insert_defaults(alloc, args)?;
+    parse_and_run(alloc, args.as_slice(), place, files, index_files, out, err)
 }
 
 /// Runs the program with these arguments, the first of which is the subcommand, and returns the exit
@@ -124,7 +124,7 @@ pub fn try_run<S: Store, T: Store + Drop, O: io::Write, E: io::Write>(
 /// index to query where no index file is given, and is consumed.
 pub fn run<S: Store, T: Store + Drop, O: io::Write, E: io::Write>(
     alloc: Global,
-    words: &[&str],
+    args: &[&str],
     current: &str,
     cargo_home: Option<&str>,
     files: &mut S,
@@ -134,12 +134,12 @@ pub fn run<S: Store, T: Store + Drop, O: io::Write, E: io::Write>(
 ) -> u8
     ensures status { result ≤ 2 }
     ensures builtin { (command : MergedCommand)
-        → first_builtin (insert_defaults (map (λ w. w.now) words.now)) ≡ Some command
+        → first_builtin (insert_defaults (map (λ w. w.now) args.now)) ≡ Some command
         → (result ≡ 1) × (files.new ≡ files.old) }
     ensures faulty { result ≡ 2 → files.new ≡ files.old }
-    ensures fault { result ≡ 2 → HasUsageError (insert_defaults (map (λ w. w.now) words.now)) }
+    ensures fault { result ≡ 2 → HasUsageError (insert_defaults (map (λ w. w.now) args.now)) }
     ensures done { result ≡ 0 → (S.view files.old).tells ≡ true
-        → IsDone (insert_defaults (map (λ w. w.now) words.now)) (Appends (O.contents out.old)
+        → IsDone (insert_defaults (map (λ w. w.now) args.now)) (Appends (O.contents out.old)
         (O.contents out.new))
         (Appends (E.contents err.old) (E.contents err.new))
         (run_at current.now (given cargo_home.entry)
@@ -147,12 +147,12 @@ pub fn run<S: Store, T: Store + Drop, O: io::Write, E: io::Write>(
     // a check found a change to make, or there is an error, with its cause; over any stores, a device error
     // is counted
     ensures failed { result ≡ 1
-        → IsChecked (insert_defaults (map (λ w. w.now) words.now)) (Appends (O.contents out.old)
+        → IsChecked (insert_defaults (map (λ w. w.now) args.now)) (Appends (O.contents out.old)
         (O.contents out.new))
         (Appends (E.contents err.old) (E.contents err.new))
         (run_at current.now (given cargo_home.entry)
         (T.view index_files) (S.view files.old) (S.view files.new))
-        ⊎ HasFailed (insert_defaults (map (λ w. w.now) words.now))
+        ⊎ HasFailed (insert_defaults (map (λ w. w.now) args.now))
         (Appends (O.contents out.old) (O.contents out.new)) (Appends (E.contents err.old))
         (CountsEitherFault T.view index_files (S.view files.old) (S.view files.new))
         (run_at current.now (given cargo_home.entry)
@@ -162,8 +162,8 @@ pub fn run<S: Store, T: Store + Drop, O: io::Write, E: io::Write>(
         current,
         cargo_home,
     };
-    match try_run(alloc, words, &place, files, index_files, out, err) {
+    match try_run(alloc, args, &place, files, index_files, out, err) {
         Ok(status) => status,
-        Err(refusal) => print_failure(alloc, refusal, err),
+        Err(failure) => print_failure(alloc, failure, err),
     }
 }

@@ -2,7 +2,7 @@
 ghost use Rattle.std.specs.Prelude.{◌≡◌, ◌≢◌, ◌||◌, IfErr, IfOk, Some, None, codes, is_some, map, option_map, string_bytes, true};
 ghost use Rattle.clap.specs.Words.{first_of, found_of, rows_of};
 ghost use Rattle.edit_set_version.specs.Bumps.{target_of};
-ghost use Rattle.edit_program.specs.declared.args_error.ArgsError.TheVariants as words;
+ghost use Rattle.edit_program.specs.declared.args_error.ArgsError.TheVariants as parse_error;
 ghost use Rattle.edit_program.specs.ParsedOptions.{is_given, values_of};
 ghost use Rattle.edit_program.specs.ParsedSetVersion.{HasSetVersionArgs, HaveNoTarget, HaveVersionFault, IsTarget, conflicting_selections, has_conflicting_selections};
 
@@ -38,20 +38,20 @@ fn conflicting_selections(matches: &ArgMatches<'_>) -> Option<(&'static str, &'s
 }
 
 /// The target for a level.
-fn target_by_level<'a>(word: &'a str) -> Result<TargetVersion, ArgsError<'a>>
-    ensures ok { IfOk result (λ t. IsTarget None (Some word.now) (target_of t)) }
-    ensures error { IfErr result (λ _. HaveNoTarget None (Some word.now)) }
+fn target_by_level<'a>(name: &'a str) -> Result<TargetVersion, ArgsError<'a>>
+    ensures ok { IfOk result (λ t. IsTarget None (Some name.now) (target_of t)) }
+    ensures error { IfErr result (λ _. HaveNoTarget None (Some name.now)) }
 {
-    match BumpLevel::from_str(word) {
+    match BumpLevel::from_str(name) {
         Ok(level) => Ok(TargetVersion::Relative(level)),
-        Err(levels) => Err(ArgsError::Fault(ArgsFault::Level(word, levels))),
+        Err(levels) => Err(ArgsError::Fault(ArgsFault::Level(name, levels))),
     }
 }
 
 /// The target for a version.
 fn target_by_version<'a>(alloc: Global, text: &'a str) -> Result<TargetVersion, ArgsError<'a>>
     ensures ok { IfOk result (λ t. IsTarget (Some text.now) None (target_of t)) }
-    ensures error { IfErr result (λ e. e ≢ words.Memory → HaveNoTarget (Some text.now) None) }
+    ensures error { IfErr result (λ e. e ≢ parse_error.Memory → HaveNoTarget (Some text.now) None) }
 {
     match Version::parse(alloc, text) {
         Ok(version) => Ok(TargetVersion::Absolute(version)),
@@ -72,12 +72,12 @@ fn target<'a>(
 ) -> Result<TargetVersion, ArgsError<'a>>
     ensures ok { IfOk result (λ t. IsTarget (option_map (λ s. s.now) version.entry)
         (option_map (λ s. s.now) level.entry) (target_of t)) }
-    ensures error { IfErr result (λ e. e ≢ words.Memory
+    ensures error { IfErr result (λ e. e ≢ parse_error.Memory
         → HaveNoTarget (option_map (λ s. s.now) version.entry) (option_map (λ s. s.now) level.entry)) }
 {
     match (version, level) {
         (None, None) => Ok(TargetVersion::default()),
-        (None, Some(word)) => target_by_level(word),
+        (None, Some(name)) => target_by_level(name),
         (Some(text), None) => target_by_version(alloc, text),
         (Some(_), Some(_)) => Err(ArgsError::Fault(ArgsFault::Together(
             "[TARGET]",
@@ -127,7 +127,7 @@ pub(crate) fn parse_set_version_args<'a>(
     matches: &ArgMatches<'a>,
 ) -> Result<SetVersionArgs<'a>, ArgsError<'a>>
     ensures asks { IfOk result (HasSetVersionArgs (rows_of (found_of matches.now))) }
-    ensures error { IfErr result (λ e. e ≢ words.Memory
+    ensures error { IfErr result (λ e. e ≢ parse_error.Memory
         → HaveVersionFault (rows_of (found_of matches.now))) }
 {
     if let Some((one, other)) = conflicting_selections(matches) {

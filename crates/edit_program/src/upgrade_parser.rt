@@ -2,7 +2,7 @@
 ghost use Rattle.std.specs.Prelude.{◌≡◌, ◌≢◌, IfErr, IfOk, None, Some, codes, false, map, option_map, string_bytes};
 ghost use Rattle.std.specs.Str.{bytes_eq};
 ghost use Rattle.clap.specs.Words.{first_of, found_of, rows_of};
-ghost use Rattle.edit_program.specs.declared.args_error.ArgsError.TheVariants as words;
+ghost use Rattle.edit_program.specs.declared.args_error.ArgsError.TheVariants as parse_error;
 ghost use Rattle.edit_program.specs.ParsedOptions.{HasOptions, HasBadStatus, status_of, status_of_value, verbosity_of};
 ghost use Rattle.edit_program.specs.ParsedUpgrade.{HasUpgradeArgs, HasNoRust, HaveUpgradeFault, IsRust, has_two_indexes};
 
@@ -65,7 +65,7 @@ fn verbosity(more: u8, less: u8) -> i8
 /// Parses a version of Rust.
 fn named_rust<'a>(alloc: Global, text: &'a str) -> Result<RustChoice, ArgsError<'a>>
     ensures ok { IfOk result (IsRust (Some text.now) false) }
-    ensures error { IfErr result (λ e. e ≢ words.Memory → HasNoRust (Some text.now) false) }
+    ensures error { IfErr result (λ e. e ≢ parse_error.Memory → HasNoRust (Some text.now) false) }
 {
     match RustVersion::from_str(alloc, text) {
         Ok(version) => Ok(RustChoice::Given(version)),
@@ -81,7 +81,7 @@ fn rust_choice<'a>(
     ignored: bool,
 ) -> Result<RustChoice, ArgsError<'a>>
     ensures ok { IfOk result (IsRust (option_map (λ s. s.now) named.entry) ignored) }
-    ensures error { IfErr result (λ e. e ≢ words.Memory
+    ensures error { IfErr result (λ e. e ≢ parse_error.Memory
         → HasNoRust (option_map (λ s. s.now) named.entry) ignored) }
 {
     match (named, ignored) {
@@ -98,7 +98,7 @@ fn rust_choice<'a>(
 /// The options of an upgrade, from parsed arguments of `upgrade`.
 fn options_of<'a>(alloc: Global, matches: &ArgMatches<'a>) -> Result<Options, ArgsError<'a>>
     ensures options { IfOk result (HasOptions (rows_of (found_of matches.now))) }
-    ensures error { IfErr result (λ e. e ≢ words.Memory → HasBadStatus (rows_of (found_of matches.now))) }
+    ensures error { IfErr result (λ e. e ≢ parse_error.Memory → HasBadStatus (rows_of (found_of matches.now))) }
 {
     Ok(Options {
         compatible: status_of(matches, "compatible")?,
@@ -129,7 +129,7 @@ pub(crate) fn parse_upgrade_args<'a>(
     matches: &ArgMatches<'a>,
 ) -> Result<UpgradeArgs<'a>, ArgsError<'a>>
     ensures asks { IfOk result (HasUpgradeArgs (rows_of (found_of matches.now))) }
-    ensures error { IfErr result (λ e. e ≢ words.Memory
+    ensures error { IfErr result (λ e. e ≢ parse_error.Memory
         → HaveUpgradeFault (rows_of (found_of matches.now))) }
 {
     if has_two_indexes(matches) {

@@ -92,8 +92,8 @@ fn possible_states(example: Example, err: &str) -> &'static str {
 
 /// Whether the exit status and standard error report a device error, or none.
 fn is_fault_reported(status: u8, err: &str, failed: bool) -> bool {
-    let told = FAULTS.iter().any(|fault| err.contains(fault));
-    told == failed && status == u8::from(failed)
+    let has_fault = FAULTS.iter().any(|fault| err.contains(fault));
+    has_fault == failed && status == u8::from(failed)
 }
 
 /// Runs an example, and returns whether a call failed; ends the test where the run reports or leaves
@@ -106,7 +106,7 @@ fn has_failed(
     index: FaultStore,
     of_index: bool,
 ) -> bool {
-    let done = run_args_in(rt, alloc, example.words, files, index, (ROOM, ROOM));
+    let done = run_args_in(rt, alloc, example.args, files, index, (ROOM, ROOM));
     let (status, err) = (done.status, done.err.as_str());
     // (the run consumed the index)
     let failed = files.faults() > 0 || of_index && status != 0;
@@ -172,7 +172,7 @@ fn run_in_room(
 ) -> (Outcome, String) {
     let mut files = faultless_store(example_files(rt, alloc, example));
     let index = faultless_store(store_of_table(rt, alloc, example.index));
-    let done = run_args_in(rt, alloc, example.words, &mut files, index, room);
+    let done = run_args_in(rt, alloc, example.args, &mut files, index, room);
     let manifests = letters(rt, alloc, &mut files.inner, example.manifests);
     (done, manifests)
 }

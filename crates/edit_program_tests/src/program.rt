@@ -112,9 +112,9 @@ fn has_expected_contents<S: Store>(alloc: Global, letter: char, files: &mut S) -
 }
 
 /// The output of a run with these arguments, after the exit status.
-fn outcome(rt: &impl Abort, alloc: Global, words: &str, files: &mut FaultStore) -> String {
+fn outcome(rt: &impl Abort, alloc: Global, args: &str, files: &mut FaultStore) -> String {
     let index = faultless_store(MemoryStore::new(alloc));
-    let done = run_args_in(rt, alloc, words, files, index, (ROOM, ROOM));
+    let done = run_args_in(rt, alloc, args, files, index, (ROOM, ROOM));
     unwrap_alloc(
         rt,
         format!(in alloc; "{} {}{}", done.status, done.out, done.err),

@@ -61,20 +61,20 @@ fn text_in(rt: &impl Abort, alloc: Global, room: &[u8; ROOM], length: usize) -> 
 pub(crate) fn run_args_in(
     rt: &impl Abort,
     alloc: Global,
-    words: &str,
+    args: &str,
     files: &mut FaultStore,
     index: FaultStore,
     (out_length, err_length): (usize, usize),
 ) -> Outcome {
-    let words: Vec<&str> = unwrap_alloc(rt, words.split_ascii_whitespace().collect(alloc));
+    let args: Vec<&str> = unwrap_alloc(rt, args.split_ascii_whitespace().collect(alloc));
     let mut out_room = [0u8; ROOM];
     let mut err_room = [0u8; ROOM];
     let mut out = out_room.get_mut(..out_length).expect(rt, "room");
     let mut err = err_room.get_mut(..err_length).expect(rt, "room");
-    let words = words.as_slice();
+    let args = args.as_slice();
     let status = run(
         alloc,
-        words,
+        args,
         "/w",
         Some("/h"),
         files,

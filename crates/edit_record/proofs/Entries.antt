@@ -4,7 +4,7 @@ use Rattle.std.specs.Prelude.{IsTrue, option_and_then}
 use Rattle.semver.specs.Parse.{Parts}
 use Rattle.edit_version.specs.Admissible.{admissible_in, entry_order, is_qualifying}
 use Rattle.edit_record.specs.Finding.{IsFound, IsFoundAtLeast}
-use Rattle.edit_version.specs.Greatest.{IsGreatest, IsGreatestKept}
+use Rattle.edit_version.specs.Greatest.{IsGreatest, IsGreatestItem}
 use Rattle.edit_version.specs.IndexEntry.{IndexEntry}
 use Rattle.edit_version.specs.Laws.{holds_dash}
 use Rattle.edit_version.specs.RustVersions.{Numbers}
@@ -17,26 +17,26 @@ use Rattle.edit_version.specs.Requirement.{cut, plain_text}
 use Rattle.edit_version.specs.VersionOrder.{full_order}
 use Rattle.edit_version.proofs.Builds.{cut-text}
 use Rattle.edit_version.proofs.Greatests.{wider, wider-found}
-use Rattle.edit_version.proofs.Kept.{admissible-version, read-parts}
+use Rattle.edit_version.proofs.QualifyingEntries.{admissible-version, read-parts}
 use Rattle.edit_version.proofs.Offers.{admitted-allowed}
-use Rattle.edit_version.proofs.GreatestEntries.{entry_total, kept-weaker, admissible-valid, none-versions, greatest-versions}
+use Rattle.edit_version.proofs.GreatestEntries.{entry_total, qualifies-weaker, admissible-valid, none-versions, greatest-versions}
 
 -- if a requirement has a greatest entry, the latest one exists and is not less
 pub found-at_least : (rust : Option Numbers) (pre : Bool) (entries : List IndexEntry) (o : Option Dependency)
     → IsFound rust (is_allowed pre) entries o
     → (req : List ℕ) → (IsTrue (holds_dash req) → IsTrue pre) → (e : IndexEntry)
-    → IsGreatestKept (is_qualifying rust (is_admitted req)) entry_order entries e
+    → IsGreatestItem (is_qualifying rust (is_admitted req)) entry_order entries e
     → IsFoundAtLeast rust (is_allowed pre) entries e o
 found-at_least rust pre entries None h req dash e g =
     wider-found (is_qualifying rust (is_admitted req)) (is_qualifying rust (is_allowed pre)) entry_order
-    (λ x k. kept-weaker rust (is_admitted req) (is_allowed pre) (λ v a. admitted-allowed req pre v dash a) x
+    (λ x k. qualifies-weaker rust (is_admitted req) (is_allowed pre) (λ v a. admitted-allowed req pre v dash a) x
     k) entries e g h
 found-at_least rust pre entries (Some d) h req dash e g = (
   h.0,
   h.1,
   h.2,
   wider (is_qualifying rust (is_admitted req)) (is_qualifying rust (is_allowed pre)) entry_order entry_total
-      (λ x k. kept-weaker rust (is_admitted req) (is_allowed pre) (λ v a. admitted-allowed req pre v dash a)
+      (λ x k. qualifies-weaker rust (is_admitted req) (is_allowed pre) (λ v a. admitted-allowed req pre v dash a)
       x k) entries e h.0 g h.1,
 )
 
@@ -45,7 +45,7 @@ found-at_least rust pre entries (Some d) h req dash e g = (
 -- the result has the name of an entry and the text of the greatest version, without build metadata
 pub found-version : (rust : Option Numbers) (test : Parts → Bool) (entries : List IndexEntry)
     (d : Dependency) → IsFound rust test entries (Some d)
-    → (v : Parts) × IsValid v × IsGreatestKept test full_order (admissible_in rust entries) v
+    → (v : Parts) × IsValid v × IsGreatestItem test full_order (admissible_in rust entries) v
     × (version_of d ≡ Some (plain_text v))
 found-version rust test entries d h =
     let g = greatest-versions rust test entries h.0 h.1 in

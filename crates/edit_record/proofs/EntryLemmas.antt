@@ -12,20 +12,20 @@ use Rattle.edit_record.specs.ReadEntries.{Tree, below, and_then, entry_record, f
 use Rattle.edit_record.specs.RecordViews.{IsErrorOfResult, IsErrorOf, item_tree}
 
 -- an error of a result
-pub told_refusal : {A : Type 0} (r : EntryError) (told : Result A EntryError) (e : Error) →
-    told ≡ Err r → IsErrorOf r e → IsErrorOfResult told e
-told_refusal r told e is tells = inr (r, is, tells)
+pub error_of_result : {A : Type 0} (r : EntryError) (result : Result A EntryError) (e : Error) →
+    result ≡ Err r → IsErrorOf r e → IsErrorOfResult result e
+error_of_result r result e is tells = inr (r, is, tells)
 
 -- an error is not changed by what follows
-pub refusal_stays : {A B : Type 0} (told : Result A EntryError) (f : A → Result B EntryError) (e : Error) →
-    IsErrorOfResult told e → IsErrorOfResult (and_then told f) e
-refusal_stays told f e (inl memory) = inl memory
-refusal_stays told f e (inr h) = inr (h.0, ap (λ x. and_then x f) h.1, h.2)
+pub failure_stays : {A B : Type 0} (result : Result A EntryError) (f : A → Result B EntryError) (e : Error) →
+    IsErrorOfResult result e → IsErrorOfResult (and_then result f) e
+failure_stays result f e (inl memory) = inl memory
+failure_stays result f e (inr h) = inr (h.0, ap (λ x. and_then x f) h.1, h.2)
 
 -- an error of what follows a value
-pub refusal_past : {A B : Type 0} (told : Result A EntryError) (f : A → Result B EntryError) (x : A) (e : Error) →
-    told ≡ Ok x → IsErrorOfResult (f x) e → IsErrorOfResult (and_then told f) e
-refusal_past told f x e is refused = rw is refused
+pub failure_past : {A B : Type 0} (result : Result A EntryError) (f : A → Result B EntryError) (x : A) (e : Error) →
+    result ≡ Ok x → IsErrorOfResult (f x) e → IsErrorOfResult (and_then result f) e
+failure_past result f x e is refused = rw is refused
 
 -- ---- members
 

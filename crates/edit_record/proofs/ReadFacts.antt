@@ -92,16 +92,16 @@ no_text name = Err (wrong_type (codes "integer") name (codes "string") x)
 pub version_number : reads (entry (number (codes "version") ∷ [])) ≡ no_text (codes "version")
 version_number = refl
 
-pub version_number_told : entry_error_text (wrong_type (codes "integer") (codes "version") (codes "string") x)
+pub version_number_text : entry_error_text (wrong_type (codes "integer") (codes "version") (codes "string") x)
     ≡ codes "Found integer for version when string was expected for x"
-version_number_told = refl
+version_number_text = refl
 
 -- `x = { workspace = false }`, and the text of its error
 pub workspace_is_false : reads (entry ((codes "workspace", truth false) ∷ [])) ≡ Err (workspace_false x)
 workspace_is_false = refl
 
-pub workspace_false_told : entry_error_text (workspace_false x) ≡ codes "`x.workspace = false` is unsupported"
-workspace_false_told = refl
+pub workspace_false_text : entry_error_text (workspace_false x) ≡ codes "`x.workspace = false` is unsupported"
+workspace_false_text = refl
 
 -- `x = 1`, `[[dependencies.x]]`, and nothing at all
 pub a_number : reads (node_at (([], whole (codes "1")) ∷ [])) ≡ Err (unknown_entry x)

@@ -71,7 +71,7 @@ parts-slash (x ∷ a) b =
 -- a segment without a slash that is a name
 record IsStep (part : List ℕ) : Type 0 where
   whole : All (λ b. is_slash b ≡ false) part
-  kept : is_name_segment part ≡ true
+  is_name : is_name_segment part ≡ true
 
 -- the steps joined by slashes
 abbrev way : List (List ℕ) → List ℕ
@@ -83,7 +83,7 @@ names-slash a b = ap (filter is_name_segment) (parts-slash a b) ∙ filter-appen
 -- both facts for each segment
 zipped : (ps : List (List ℕ)) → All (All (λ b. is_slash b ≡ false)) ps → All (λ p. is_name_segment p ≡ true) ps
     → All IsStep ps
-zipped ps whole kept = λ k d l. record { whole = whole k d l; kept = kept k d l }
+zipped ps whole is_name = λ k d l. record { whole = whole k d l; is_name = is_name k d l }
 
 names-steps : (text : List ℕ) → All IsStep (names_of text)
 names-steps text =
@@ -97,7 +97,7 @@ filter-steps : (ws : List (List ℕ)) → All IsStep ws → filter is_name_segme
 filter-steps [] h = refl
 filter-steps (w ∷ ws) h =
     let first = All-head IsStep w ws h in
-    rw (first.kept) (ap (λ l. w ∷ l) (filter-steps ws (All-tail IsStep w ws h)))
+    rw (first.is_name) (ap (λ l. w ∷ l) (filter-steps ws (All-tail IsStep w ws h)))
 
 -- the segments of a relative path are its steps
 parts-way : (w : List ℕ) (ws : List (List ℕ)) → All IsStep (w ∷ ws) → parts_of (way (w ∷ ws)) ≡ w ∷ ws
@@ -194,7 +194,7 @@ two_dots : IsStep (codes "..")
 two_dots = record {
   whole = All-cons (λ b. is_slash b ≡ false) 46 (codes ".") refl
       (All-cons (λ b. is_slash b ≡ false) 46 [] refl (All-nil (λ b. is_slash b ≡ false)));
-  kept = refl;
+  is_name = refl;
 }
 
 -- the law of relative paths

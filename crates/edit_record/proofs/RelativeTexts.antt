@@ -23,8 +23,8 @@ idle-lost part (inl e) = rw e refl
 idle-lost part (inr e) = rw e refl
 
 -- a segment that is neither empty nor `.` stays
-other-kept : (part : List ℕ) → (IsEmptyOrDot part → ⊥) → is_name_segment part ≡ true
-other-kept part h = elim (cases_Bool (same_bytes part [])) [
+other-remains : (part : List ℕ) → (IsEmptyOrDot part → ⊥) → is_name_segment part ≡ true
+other-remains part h = elim (cases_Bool (same_bytes part [])) [
   | inl e ↦ absurd (h (inl (same_bytes_is part [] e)))
   | inr e ↦ elim (cases_Bool (same_bytes part (codes "."))) [
     | inl f ↦ absurd (h (inr (same_bytes_is part (codes ".") f)))
@@ -40,7 +40,7 @@ named-filter _ _ (named_drop parts names part n idle) =
     ∙ rw (idle-lost part idle) (rw (named-filter parts names n) (append-nil names))
 named-filter _ _ (named_take parts names part n other) =
     filter-append is_name_segment parts (part ∷ [])
-    ∙ rw (other-kept part other) (rw (named-filter parts names n) refl)
+    ∙ rw (other-remains part other) (rw (named-filter parts names n) refl)
 
 -- after the common prefix the path goes up and down
 steps-common : (common down up : List (List ℕ)) → BeginApart down up

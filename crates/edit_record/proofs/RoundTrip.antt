@@ -87,9 +87,9 @@ table-read root r origin is plain =
     (members-apart root origin) (origin-read root r (key_of r) r.registry origin plain)
 
 -- an answer that is known
-known : {A : Type 0} (P : A → Type 0) (told : Result A EntryError) (x : A) → told ≡ Ok x → P x
-    → IsOkAnd told P
-known P told x is p = subst (λ t. IsOkAnd t P) (sym is) p
+known : {A : Type 0} (P : A → Type 0) (result : Result A EntryError) (x : A) → result ≡ Ok x → P x
+    → IsOkAnd result P
+known P result x is p = subst (λ t. IsOkAnd t P) (sym is) p
 
 -- an inline table is read back if the result of reading it is written as the same inline table
 table-reads : (root : List ℕ) (r : EntryRecord) (origin : Origin) → r.origin ≡ Some origin
@@ -102,9 +102,9 @@ table-reads root r origin is plain whole full =
     (table-read root r origin is plain) (full ∙ full-again root r origin is plain whole)
 
 -- the registry is written with a registry source, and is absent with the workspace
-registry-kept : (r : EntryRecord) (origin : Origin) → r.origin ≡ Some origin
+registry-remains : (r : EntryRecord) (origin : Origin) → r.origin ≡ Some origin
     → is_some (origin_version origin) ≡ true → written_registry r ≡ r.registry
-registry-kept r origin is some = rw (is, some) refl
+registry-remains r origin is some = rw (is, some) refl
 
 no-registry : (r : EntryRecord) → r.registry ≡ None → written_registry r ≡ r.registry
 no-registry r none = both-none (is_some (option_and_then origin_version r.origin)) r.registry none
@@ -116,7 +116,7 @@ no-registry r none = both-none (is_some (option_and_then origin_version r.origin
 -- the result of reading is short if the dependency is
 short-again : (r : EntryRecord) (origin : Origin) → written_registry r ≡ r.registry
     → is_short (read_again r origin) ≡ is_short r
-short-again r origin kept = rw (kept, names-again r.name r.rename) refl
+short-again r origin of_registry = rw (of_registry, names-again r.name r.rename) refl
 
 -- a dependency with a registry source
 registry-reads : (root version : List ℕ) (r : EntryRecord) (short : Bool)
@@ -125,8 +125,8 @@ registry-reads : (root version : List ℕ) (r : EntryRecord) (short : Bool)
     → HasRoundTrip root (key_of r) (item_by root r (Some (from_registry version)) short)
 registry-reads root version r true is whole e = ap (λ v. a_value (a_string v)) (cut-none version whole)
 registry-reads root version r false is whole e =
-    let kept = registry-kept r (from_registry version) is refl in
-    let short = short-again r (from_registry (cut version)) kept in
+    let of_registry = registry-remains r (from_registry version) is refl in
+    let short = short-again r (from_registry (cut version)) of_registry in
     table-reads root r (from_registry version) is tt whole (rw (short, e) refl)
 
 -- a dependency with a workspace source
@@ -167,5 +167,5 @@ pub reads-there : (t : Tree) (place : Place) (root dep : List ℕ) (item : NewIt
 reads-there t place root dep item there again =
     let whole : below t place ≡ item_view false item = λ i q. there q i in
     let here : t place ≡ item_view false item [] = ap t (sym (append-nil place)) ∙ there [] in
-    subst (λ told. IsOkAnd told (λ r. item_of root r ≡ item))
+    subst (λ result. IsOkAnd result (λ r. item_of root r ≡ item))
     (sym (λ i. entry_record (whole i) root dep (here i))) again

@@ -25,7 +25,7 @@ and_then (Err e) f = Err e
 
 -- applies a function to the value of a result (own)
 abbrev pub ok_map : {A B : Type 0} → (A → B) → Result A EntryError → Result B EntryError
-ok_map f told = and_then told (λ x. Ok (f x))
+ok_map f result = and_then result (λ x. Ok (f x))
 
 -- the value if it is there, else this error (own)
 abbrev pub there_or : {A : Type 0} → EntryError → Option A → Result A EntryError

@@ -103,7 +103,7 @@ IsErrorOf r e = ⊥
 
 -- the error is that of this result, or lack of memory (own)
 abbrev pub IsErrorOfResult : {A : Type 0} → Result A EntryError → Error → Type 0
-IsErrorOfResult told e = IsMemory e ⊎ ((r : EntryError) × (told ≡ Err r) × IsErrorOf r e)
+IsErrorOfResult result e = IsMemory e ⊎ ((r : EntryError) × (result ≡ Err r) × IsErrorOf r e)
 
 -- the message of an error (own)
 abbrev pub entry_error_text : EntryError → List ℕ

@@ -5,7 +5,7 @@ ghost use Rattle.edit_version.specs.Admissible.{entry_order, is_qualifying};
 ghost use Rattle.edit_version.specs.Admits.{admits};
 ghost use Rattle.edit_version.specs.Candidates.{numbers_in, wants};
 ghost use Rattle.edit_record.specs.Finding.{IsFound, IsFoundAtLeast};
-ghost use Rattle.edit_version.specs.Greatest.{IsGreatestKept};
+ghost use Rattle.edit_version.specs.Greatest.{IsGreatestItem};
 ghost use Rattle.edit_version.specs.IndexEntry.{IndexEntry, entry_of};
 ghost use Rattle.edit_version.specs.Laws.{holds_dash};
 ghost use Rattle.edit_record.specs.Records.{IsRegistryDependency};
@@ -21,13 +21,13 @@ use semver::VersionReq;
 use std::alloc::Global;
 
 /// Returns a dependency on a version of an index.
-pub fn dependency_on(alloc: Global, told: &IndexVersion) -> CargoResult<Dependency>
+pub fn dependency_on(alloc: Global, index_entry: &IndexVersion) -> CargoResult<Dependency>
     ensures ok { IfOk result
-        (IsRegistryDependency (string_bytes told.now.name) (string_bytes told.now.version)) }
+        (IsRegistryDependency (string_bytes index_entry.now.name) (string_bytes index_entry.now.version)) }
     ensures error { IfErr result IsMemory }
 {
-    let source = RegistrySource::new(alloc, told.version.as_str())?;
-    let dependency = Dependency::new(alloc, told.name.as_str())?;
+    let source = RegistrySource::new(alloc, index_entry.version.as_str())?;
+    let dependency = Dependency::new(alloc, index_entry.name.as_str())?;
     Ok(dependency.set_source(Source::Registry(source)))
 }
 
@@ -46,7 +46,7 @@ fn find_version(
     ensures error { IfErr result IsMemory }
 {
     match greatest_entry(alloc, versions, allow_prerelease, req, rust_version)? {
-        Some(told) => Ok(Some(dependency_on(alloc, told)?)),
+        Some(index_entry) => Ok(Some(dependency_on(alloc, index_entry)?)),
         None => Ok(None),
     }
 }
@@ -65,7 +65,7 @@ pub fn find_latest_version(
     // are allowed where the requirement has a `-`
     ensures at_least { IfOk result (λ o. (req : List ℕ) → (IsTrue (holds_dash req) → IsTrue allow_prerelease)
         → (e : IndexEntry)
-        → IsGreatestKept (is_qualifying (numbers_in rust_version) (is_admitted req)) entry_order
+        → IsGreatestItem (is_qualifying (numbers_in rust_version) (is_admitted req)) entry_order
         (map entry_of versions.now) e
         → IsFoundAtLeast (numbers_in rust_version) (is_allowed allow_prerelease)
         (map entry_of versions.now) e o) }

@@ -9,14 +9,14 @@ use Rattle.edit_report.specs.declared.output.Output.{Output}
 use Rattle.edit_store.specs.Store.{Files, IsWrittenAtMostOnce, IsWrittenOnce, SameBut, SameFiles, StoreView}
 
 -- what holds anyway holds of a refusal
-pub on_refusal : {T E : Type 0} (r : Result T E) (P : Type 0) → P → OnErr r P
-on_refusal (Ok x) P p = tt
-on_refusal (Err e) P p = p
+pub on_failure : {T E : Type 0} (r : Result T E) (P : Type 0) → P → OnErr r P
+on_failure (Ok x) P p = tt
+on_failure (Err e) P p = p
 
 -- what follows where a call is refused
-pub on_refusal_more : {T E : Type 0} (r : Result T E) (P Q : Type 0) → (P → Q) → OnErr r P → OnErr r Q
-on_refusal_more (Ok x) P Q f p = tt
-on_refusal_more (Err e) P Q f p = f p
+pub on_failure_more : {T E : Type 0} (r : Result T E) (P Q : Type 0) → (P → Q) → OnErr r P → OnErr r Q
+on_failure_more (Ok x) P Q f p = tt
+on_failure_more (Err e) P Q f p = f p
 
 -- writing stopped before the first output where nothing is written
 pub stopped_early : (outputs : List Output) (old new : StoreView) → 0 < length outputs
@@ -153,7 +153,7 @@ pub stopped_at : (outputs : List Output) (i : ℕ) (d : Output) (old mid new : S
     → HasStopped outputs old new
 stopped_at outputs i d old mid new distinct within before others at_most_once =
     let begun = begun_at outputs i d old mid new within before.once at_most_once in
-    let kept = keeps_more outputs i d old.file_at mid.file_at new.file_at within before.others others in
+    let others_remain = keeps_more outputs i d old.file_at mid.file_at new.file_at within before.others others in
     record {
       at = i;
       within = within;
@@ -162,12 +162,12 @@ stopped_at outputs i d old mid new distinct within before others at_most_once =
       begun_last = begun.2;
       once = begun.3;
       whole = λ t. whole_still outputs i d mid.file_at new.file_at distinct within others (before.whole t);
-      untouched = λ k e lt. kept _ (λ m f front.
+      untouched = λ k e lt. others_remain _ (λ m f front.
           let first : m < i + 1 = omega (arith, length-take (i + 1) outputs) in
           let last : i + 1 + k < length outputs = omega (arith, length-drop (i + 1) outputs) in
           let P : Output → Type 0 = λ o. path_of o ≢ path_of (get_or (take (i + 1) outputs) m f) in
           subst P (sym (get_or-drop (i + 1) outputs k e))
           (λ same. apart_front outputs (i + 1) m (i + 1 + k) f e distinct first (omega arith) last
           (sym same)));
-      others = kept;
+      others = others_remain;
     }

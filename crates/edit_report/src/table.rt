@@ -102,13 +102,13 @@ fn shown_rows<'a>(alloc: Global, rows: &'a [Row], verbosity: i8) -> CargoResult<
     ensures ok { IfOk result (λ v. map (λ r. r.now) v.items ≡ filter (is_shown verbosity) rows.now) }
     ensures error { IfErr result IsMemory }
 {
-    let mut kept = Vec::new(alloc);
+    let mut shown = Vec::new(alloc);
     for row in rows {
         if is_row_shown(alloc, row, verbosity)? {
-            kept.push(row)?;
+            shown.push(row)?;
         }
     }
-    Ok(kept)
+    Ok(shown)
 }
 
 /// The lines of a table with these rows.

@@ -30,10 +30,10 @@ struct Run {
 
 /// Runs the program over the files of a request.
 fn run_over(alloc: Global, request: &mut Request) -> Result<Run, AllocError> {
-    let words: Vec<&str> = request
-        .words
+    let args: Vec<&str> = request
+        .args
         .iter()
-        .map(|word| word.as_str())
+        .map(|arg| arg.as_str())
         .collect(alloc)?;
     let place = RunFolders {
         current: request.root.as_str(),
@@ -43,7 +43,7 @@ fn run_over(alloc: Global, request: &mut Request) -> Result<Run, AllocError> {
     let mut err = Vec::new(alloc);
     let result = try_run(
         alloc,
-        &words,
+        &args,
         &place,
         &mut request.store,
         MemoryStore::new(alloc),
@@ -82,7 +82,7 @@ fn respond(
     put(alloc, &mut members, "error", Value::Null)?;
     let printed = text_of(&run.err);
     match &run.result {
-        Err(refusal) => put_error(alloc, &mut members, refusal)?,
+        Err(failure) => put_error(alloc, &mut members, failure)?,
         Ok(2) => put_message(alloc, &mut members, printed)?,
         Ok(_) => {}
     }
@@ -93,9 +93,9 @@ fn respond(
         Value::try_from_str(alloc, printed)?,
     )?;
     let is_lookup = request
-        .words
+        .args
         .first()
-        .is_some_and(|word| word.as_str() == "looks");
+        .is_some_and(|arg| arg.as_str() == "looks");
     if is_lookup {
         put_lookups(alloc, &mut members, text_of(&run.out))?;
     } else {

@@ -75,8 +75,8 @@ pub(crate) fn put_changes(
 }
 
 /// The place of an error and the excerpt of the file that follows it, where each is known.
-fn place_and_excerpt(refusal: &RunError) -> (Option<&str>, Option<&str>) {
-    let Some(place) = refusal.place.as_deref() else {
+fn place_and_excerpt(failure: &RunError) -> (Option<&str>, Option<&str>) {
+    let Some(place) = failure.place.as_deref() else {
         return (None, None);
     };
     match place.split_once('\n') {
@@ -89,18 +89,18 @@ fn place_and_excerpt(refusal: &RunError) -> (Option<&str>, Option<&str>) {
 pub(crate) fn put_error(
     alloc: Global,
     members: &mut Members,
-    refusal: &RunError,
+    failure: &RunError,
 ) -> Result<(), AllocError> {
-    let error = &refusal.error;
+    let error = &failure.error;
     let message = format!(in alloc; "{error}")?;
     let mut object = Map::new(alloc);
     put(alloc, &mut object, "number", Value::from(error.number()))?;
     put_text(alloc, &mut object, "message", Some(message.as_str()))?;
-    let (place, excerpt) = place_and_excerpt(refusal);
+    let (place, excerpt) = place_and_excerpt(failure);
     put_text(alloc, &mut object, "place", place)?;
     put_text(alloc, &mut object, "excerpt", excerpt)?;
-    put_text(alloc, &mut object, "cause", refusal.cause.as_deref())?;
-    put_text(alloc, &mut object, "help", refusal.help.as_deref())?;
+    put_text(alloc, &mut object, "cause", failure.cause.as_deref())?;
+    put_text(alloc, &mut object, "help", failure.help.as_deref())?;
     put(alloc, members, "error", Value::Object(object))
 }
 

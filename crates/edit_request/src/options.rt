@@ -24,24 +24,24 @@ const UNAVAILABLE: &[&str] = &[
 ];
 
 /// Appends an argument to a command line.
-pub(crate) fn push_word(
+pub(crate) fn push_arg(
     alloc: Global,
-    words: &mut Vec<String>,
-    word: &str,
+    args: &mut Vec<String>,
+    arg: &str,
 ) -> Result<(), AllocError> {
-    words.push(String::from_str(alloc, word)?)?;
+    args.push(String::from_str(alloc, arg)?)?;
     Ok(())
 }
 
 /// Appends an option with its value.
 pub(crate) fn push_pair(
     alloc: Global,
-    words: &mut Vec<String>,
+    args: &mut Vec<String>,
     key: &str,
     value: &str,
 ) -> Result<(), AllocError> {
-    let word = format!(in alloc; "--{key}={value}")?;
-    words.push(word)?;
+    let arg = format!(in alloc; "--{key}={value}")?;
+    args.push(arg)?;
     Ok(())
 }
 
@@ -75,31 +75,31 @@ fn value_error(alloc: Global, key: &str) -> RequestError {
 /// Appends a flag. `recursive` takes a value of `true` or `false`; another flag is left out for `false`.
 fn push_flag(
     alloc: Global,
-    words: &mut Vec<String>,
+    args: &mut Vec<String>,
     key: &str,
     is_set: bool,
 ) -> Result<(), AllocError> {
     if key == "recursive" {
-        return push_pair(alloc, words, key, if is_set { "true" } else { "false" });
+        return push_pair(alloc, args, key, if is_set { "true" } else { "false" });
     }
     if !is_set {
         return Ok(());
     }
-    let word = format!(in alloc; "--{key}")?;
-    words.push(word)?;
+    let arg = format!(in alloc; "--{key}")?;
+    args.push(arg)?;
     Ok(())
 }
 
 /// Appends an option once for each of its values.
 fn push_values(
     alloc: Global,
-    words: &mut Vec<String>,
+    args: &mut Vec<String>,
     key: &str,
     values: &[Value],
 ) -> Result<(), RequestError> {
     for value in values {
         match value.as_str() {
-            Some(text) => push_pair(alloc, words, key, text)?,
+            Some(text) => push_pair(alloc, args, key, text)?,
             None => return Err(value_error(alloc, key)),
         }
     }
@@ -109,7 +109,7 @@ fn push_values(
 /// Appends an option of a request.
 fn push_option(
     alloc: Global,
-    words: &mut Vec<String>,
+    args: &mut Vec<String>,
     key: &str,
     value: &Value,
 ) -> Result<(), RequestError> {
@@ -118,9 +118,9 @@ fn push_option(
     }
     match value {
         Value::Null => Ok(()),
-        Value::Bool(is_set) => Ok(push_flag(alloc, words, key, *is_set)?),
-        Value::String(text) => Ok(push_pair(alloc, words, key, text.as_str())?),
-        Value::Array(values) => push_values(alloc, words, key, values.as_slice()),
+        Value::Bool(is_set) => Ok(push_flag(alloc, args, key, *is_set)?),
+        Value::String(text) => Ok(push_pair(alloc, args, key, text.as_str())?),
+        Value::Array(values) => push_values(alloc, args, key, values.as_slice()),
         Value::Number(_) | Value::Object(_) => Err(value_error(alloc, key)),
     }
 }
@@ -128,11 +128,11 @@ fn push_option(
 /// Appends the options of a request.
 pub(crate) fn push_options(
     alloc: Global,
-    words: &mut Vec<String>,
+    args: &mut Vec<String>,
     options: &Members,
 ) -> Result<(), RequestError> {
     for (key, value) in options {
-        push_option(alloc, words, key.as_str(), value)?;
+        push_option(alloc, args, key.as_str(), value)?;
     }
     Ok(())
 }

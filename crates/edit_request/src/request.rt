@@ -3,7 +3,7 @@
 use crate::error::{RequestError, malformed_error};
 use crate::files::{RequestFile, files_at, index_path, lock_path, metadata_path, root_of};
 use crate::members::{Members, check_keys, object_at, text_at, value_at};
-use crate::options::{push_options, push_pair, push_word};
+use crate::options::{push_options, push_pair, push_arg};
 use edit_store::MemoryStore;
 use serde_json::Value;
 use std::alloc::Global;
@@ -26,7 +26,7 @@ const KEYS: &[&str] = &[
 #[derive(Drop)]
 pub(crate) struct Request {
     /// The arguments of the program.
-    pub(crate) words: Vec<String>,
+    pub(crate) args: Vec<String>,
     /// The absolute folder that relative paths start from.
     pub(crate) root: String,
     pub(crate) manifests: Vec<RequestFile>,
@@ -80,15 +80,15 @@ fn command_of(alloc: Global, members: &Members) -> Result<&str, RequestError> {
 /// Appends the arguments that say which manifests are meant: the metadata, else the only manifest.
 fn push_manifests(
     alloc: Global,
-    words: &mut Vec<String>,
+    args: &mut Vec<String>,
     metadata: Option<&String>,
     manifests: &[RequestFile],
 ) -> Result<(), RequestError> {
     if let Some(path) = metadata {
-        return Ok(push_pair(alloc, words, "metadata-json", path.as_str())?);
+        return Ok(push_pair(alloc, args, "metadata-json", path.as_str())?);
     }
     match manifests {
-        [only] => Ok(push_pair(alloc, words, "manifest-path", only.path.as_str())?),
+        [only] => Ok(push_pair(alloc, args, "manifest-path", only.path.as_str())?),
         [] => Err(malformed_error(alloc, "the member `manifests` is missing or empty")),
         _ => Err(malformed_error(
             alloc,
@@ -100,14 +100,14 @@ fn push_manifests(
 /// Appends the version that `set-version` is to set.
 fn push_target(
     alloc: Global,
-    words: &mut Vec<String>,
+    args: &mut Vec<String>,
     members: &Members,
 ) -> Result<(), RequestError> {
     match text_at(alloc, members, "target")? {
         Some(target) if target.starts_with('-') => {
             Err(malformed_error(alloc, "the member `target` is not a version"))
         }
-        Some(target) => Ok(push_word(alloc, words, target)?),
+        Some(target) => Ok(push_arg(alloc, args, target)?),
         None => Ok(()),
     }
 }
@@ -125,26 +125,26 @@ fn read_members(alloc: Global, members: &Members) -> Result<Request, RequestErro
     let metadata = metadata_path(alloc, members, root, &mut store)?;
     let index = index_path(alloc, members, root, &mut store)?;
     let lock = lock_path(alloc, members, root, &mut store)?;
-    let mut words = Vec::new(alloc);
-    push_word(alloc, &mut words, command)?;
-    push_manifests(alloc, &mut words, metadata.as_ref(), &manifests)?;
+    let mut args = Vec::new(alloc);
+    push_arg(alloc, &mut args, command)?;
+    push_manifests(alloc, &mut args, metadata.as_ref(), &manifests)?;
     if command != "looks" {
-        push_pair(alloc, &mut words, "message-format", "json")?;
+        push_pair(alloc, &mut args, "message-format", "json")?;
     }
     if let Some(path) = index {
-        push_pair(alloc, &mut words, "index-file", path.as_str())?;
+        push_pair(alloc, &mut args, "index-file", path.as_str())?;
     } else if command == "upgrade" {
         return Err(malformed_error(alloc, "the member `index` is missing"));
     }
     if let Some(path) = lock {
-        push_pair(alloc, &mut words, "lock-file", path.as_str())?;
+        push_pair(alloc, &mut args, "lock-file", path.as_str())?;
     }
     if let Some(options) = object_at(alloc, members, "options")? {
-        push_options(alloc, &mut words, options)?;
+        push_options(alloc, &mut args, options)?;
     }
-    push_target(alloc, &mut words, members)?;
+    push_target(alloc, &mut args, members)?;
     Ok(Request {
-        words,
+        args,
         root: String::from_str(alloc, root)?,
         manifests,
         store,

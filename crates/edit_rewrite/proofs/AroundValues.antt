@@ -26,7 +26,7 @@ use Rattle.edit_document.specs.Items.{step_view, place_view}
 use Rattle.edit_tree.specs.RemovedBytes.{innermost, removed_text, lines_left, value_left}
 use Rattle.edit_rewrite.specs.RemoveText.{IsFoundAt, IsAround, HasAround, StandsBetween}
 use Rattle.edit_tree.specs.Slots.{IsContainer}
-use Rattle.edit_rewrite.specs.StatementOffsets.{IsSpot}
+use Rattle.edit_rewrite.specs.StatementOffsets.{IsSuffix}
 use Rattle.edit_tree.specs.Statements.{placed_statements}
 use Rattle.edit_tree.specs.Tree.{is_value_at}
 use Rattle.edit_tree.specs.Written.{PlacedValue, values, IsWrittenAt}
@@ -35,15 +35,15 @@ use Rattle.edit_tree.proofs.FineValues.{values_fine}
 use Rattle.edit_tree.proofs.Innermost.{none_around, same_around, value_around}
 use Rattle.edit_rewrite.proofs.LeftTexts.{value_start}
 use Rattle.edit_rewrite.proofs.SlotLaws.{before_is}
-use Rattle.edit_rewrite.proofs.SpotTexts.{whole_spot, cut_spots, cut_rest}
-use Rattle.edit_rewrite.proofs.StatementSpots.{spot_of}
-use Rattle.edit_rewrite.proofs.ValueSpots.{values_stand}
+use Rattle.edit_rewrite.proofs.SuffixTexts.{whole_suffix, cut_suffixes, cut_rest}
+use Rattle.edit_rewrite.proofs.StatementSuffixes.{suffix_of}
+use Rattle.edit_rewrite.proofs.ValueSuffixes.{values_stand}
 
 -- ---- where a value stands
 
 -- a text may be cut behind a value
 behind_value : (bytes : List ℕ) (v : Value) (after : List ℕ) → IsUtf8 bytes → IsValue v
-    → Ends bytes (value v after) → IsSpot bytes after
+    → Ends bytes (value v after) → IsSuffix bytes after
 behind_value bytes v after u valid ends =
     let e = value_enclosed v valid in
     let front = ends.0 ++ e.before in
@@ -64,14 +64,14 @@ behind_value bytes v after u valid ends =
 pub stands_between : (bytes : List ℕ) (form : Text) (w : PlacedValue) (a : Around) → IsDocument bytes form
     → IsUtf8 bytes → IsFoundAt form w a → StandsBetween bytes w a.from a.to
 stands_between bytes form w a m u f =
-    let among = contained_among w (values form) f.told in
+    let among = contained_among w (values form) f.listed in
     let valid = among_all (λ w. IsValue w.value) w (values form)
     (values_fine [] [] form.lines m.grammar.well_formed) among in
     let s = values_stand bytes form m u w among in
     record {
       valid = valid;
       shallow = s.shallow;
-      start = spot_of bytes (value w.value w.after) s.ends (value_start w.value w.after valid);
+      start = suffix_of bytes (value w.value w.after) s.ends (value_start w.value w.after valid);
       end = behind_value bytes w.value w.after u valid s.ends;
       from_is = f.from;
       to_is = f.to;
@@ -83,14 +83,14 @@ pub found_at : (bytes : List ℕ) (form : Text) (p : Place) (start end : ℕ) (a
     → a.to ≡ length bytes - end → IsFoundAt form r.placed_value a
 found_at bytes form p start end a m u r steps from to =
     let w = r.placed_value in
-    let ends = (values_stand bytes form m u w (contained_among w (values form) r.told)).ends in
+    let ends = (values_stand bytes form m u w (contained_among w (values form) r.listed)).ends in
     let size = ap length m.grammar.spelled in
     let long = ap length ends.1 ∙ length-append ends.0 (value w.value w.after) in
     let more = ap length (value_rest w.value w.after) ∙ length-append (value w.value []) w.after in
     let starts = r.starts in
     let finish = r.ends in
     record {
-      told = r.told;
+      listed = r.listed;
       steps = steps ∙ ap length (sym r.there);
       from = omega arith;
       to = omega arith;
@@ -102,7 +102,7 @@ found_at bytes form p start end a m u r steps from to =
 pub value_between : (bytes : List ℕ) (w : PlacedValue) (from to : ℕ) → StandsBetween bytes w from to
     → cut_from bytes (length bytes - from) (length bytes - to) ≡ value w.value []
 value_between bytes w from to s =
-    cut_spots bytes (value w.value w.after) w.after from to s.start s.end
+    cut_suffixes bytes (value w.value w.after) w.after from to s.start s.end
     (value w.value [], value_rest w.value w.after) s.from_is s.to_is
     ∙ before_is (value w.value w.after) (value w.value []) w.after (value_rest w.value w.after)
 
@@ -115,7 +115,7 @@ pub part_put : (bytes now one two three front back : List ℕ) (w : PlacedValue)
     → three ≡ with_splice bytes (record { from = value w.value w.after; to = w.after; now = now })
 part_put bytes now one two three front back w from to u s f b e1 e2 e3 =
     let head : front ≡ before bytes (value w.value w.after) =
-    f ∙ cut_spots bytes bytes (value w.value w.after) (length bytes) from (whole_spot bytes u) s.start
+    f ∙ cut_suffixes bytes bytes (value w.value w.after) (length bytes) from (whole_suffix bytes u) s.start
     (s.start.front, s.start.seam) refl s.from_is in
     let tail : back ≡ w.after = b ∙ cut_rest bytes w.after to s.end s.to_is in
     e3 ∙ ap₂ (λ (x y : List ℕ). x ++ y) (e2 ∙ ap (λ (x : List ℕ). x ++ now) (e1 ∙ head)) tail
@@ -175,7 +175,7 @@ removed_inside form gone w e = rw e refl
 
 -- and where none is
 pub removed_lines : (form : Text) (gone : Place) → innermost gone form ≡ None
-    → removed_text gone form ≡ byte_order_mark form.marked (lines_left gone (lines form.lines) (placed_statements form))
+    → removed_text gone form ≡ byte_order_mark form.has_byte_order_mark (lines_left gone (lines form.lines) (placed_statements form))
 removed_lines form gone e = rw e refl
 
 -- ---- the innermost value, step by step
@@ -211,7 +211,7 @@ pub some_around : (bytes : List ℕ) (form : Text) (steps : List WrittenStep) (s
 some_around bytes form steps start end a m u some r count from to =
     let above = take (length steps - 1) steps in
     let last = last_step steps some in
-    let among = contained_among r.placed_value (values form) r.told in
+    let among = contained_among r.placed_value (values form) r.listed in
     record {
       placed_value = r.placed_value;
       found = found_at bytes form (place_view above) start end a m u r

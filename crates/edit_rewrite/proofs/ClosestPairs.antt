@@ -18,21 +18,21 @@ use Rattle.edit_tree.proofs.Choices.{last_nothing, last_flat, last_only}
 use Rattle.edit_tree.proofs.TablePairs.{among_flat, value_table}
 use Rattle.edit_tree.proofs.SamePlace.{same_place_is, same_place_self}
 use Rattle.edit_tree.proofs.UniqueValues.{values_unique}
-use Rattle.edit_rewrite.proofs.ValueAssertions.{among_left, among_right, value_told, value_alone}
+use Rattle.edit_rewrite.proofs.ValueAssertions.{among_left, among_right, value_assertion, value_alone}
 
 -- ---- a key that goes on behind a place
 
 -- it begins above the place
-pub part_within : (place table : Place) (ns : List Named) (spot : List ℕ)
-    → behind_part unresolved place table ns ≡ Some spot → (s : Step) × (below : Place)
+pub part_within : (place table : Place) (ns : List Named) (suffix : List ℕ)
+    → behind_part unresolved place table ns ≡ Some suffix → (s : Step) × (below : Place)
     × (place ≡ table ++ (s ∷ below))
-part_within place table [] spot e = absurd cc
-part_within place table (n ∷ ns) spot e =
-    go (same_place (at table (key n.0)) place) refl e (part_within place (at table (key n.0)) ns spot)
+part_within place table [] suffix e = absurd cc
+part_within place table (n ∷ ns) suffix e =
+    go (same_place (at table (key n.0)) place) refl e (part_within place (at table (key n.0)) ns suffix)
   where
     go : (b : Bool) → same_place (at table (key n.0)) place ≡ b
-        → cond b (Some n.1) (behind_part unresolved place (at table (key n.0)) ns) ≡ Some spot
-        → (behind_part unresolved place (at table (key n.0)) ns ≡ Some spot
+        → cond b (Some n.1) (behind_part unresolved place (at table (key n.0)) ns) ≡ Some suffix
+        → (behind_part unresolved place (at table (key n.0)) ns ≡ Some suffix
         → (s : Step) × (below : Place) × (place ≡ at table (key n.0) ++ (s ∷ below)))
         → (s : Step) × (below : Place) × (place ≡ table ++ (s ∷ below))
     go true h k ih = (key n.0, [], sym (same_place_is (at table (key n.0)) place h))
@@ -40,24 +40,24 @@ part_within place table (n ∷ ns) spot e =
         let r = ih k in
         (key n.0, r.0 ∷ r.1, r.2 ∙ append_assoc table (key n.0 ∷ []) (r.0 ∷ r.1))
 
-pub part_above : (place table : Place) (ns : List Named) (spot : List ℕ)
-    → behind_part unresolved place table ns ≡ Some spot → (length table < length place)
+pub part_above : (place table : Place) (ns : List Named) (suffix : List ℕ)
+    → behind_part unresolved place table ns ≡ Some suffix → (length table < length place)
     × (take (length table) place ≡ table)
-part_above place table ns spot e =
-    let r = part_within place table ns spot e in
+part_above place table ns suffix e =
+    let r = part_within place table ns suffix e in
     let size = ap length r.2 ∙ length-append table (r.0 ∷ r.1) in
     (omega arith, ap (take (length table)) r.2 ∙ take-append_seam table (r.0 ∷ r.1))
 
 -- and asserts each place on the way
 key_dotted : (place : Place) (j : ℕ) (by q : Place) (n x : List ℕ) (ds : List Dotted) (rest : List ℕ)
     (v : Value)
-    (spot : List ℕ) → behind_part unresolved place q (front_parts ((n, x) ∷ dotted_parts ds rest)) ≡ Some spot
+    (suffix : List ℕ) → behind_part unresolved place q (front_parts ((n, x) ∷ dotted_parts ds rest)) ≡ Some suffix
     → length q + suc j < length place
     → Among (asserts by (take (length q + suc j) place) (dotted true))
     (of_key true by q (n ∷ map (λ d. name d.part) ds) v)
-key_dotted place j by q n x [] rest v spot e lt = absurd cc
-key_dotted place j by q n x (d ∷ ds) rest v spot e lt =
-    go (same_place here place) refl e (λ i. key_dotted place i by here (name d.part) _ ds rest v spot)
+key_dotted place j by q n x [] rest v suffix e lt = absurd cc
+key_dotted place j by q n x (d ∷ ds) rest v suffix e lt =
+    go (same_place here place) refl e (λ i. key_dotted place i by here (name d.part) _ ds rest v suffix)
   where
     here : Place
     here = at q (key n)
@@ -71,14 +71,14 @@ key_dotted place j by q n x (d ∷ ds) rest v spot e lt =
     made : List Assertion
     made = of_key true by here (name d.part ∷ map (λ z. name z.part) ds) v
 
-    deeper : (i : ℕ) → behind_part unresolved place here others ≡ Some spot
-        → ((m : ℕ) → behind_part unresolved place here others ≡ Some spot → length here + suc m < length place
+    deeper : (i : ℕ) → behind_part unresolved place here others ≡ Some suffix
+        → ((m : ℕ) → behind_part unresolved place here others ≡ Some suffix → length here + suc m < length place
         → Among (asserts by (take (length here + suc m) place) (dotted true)) made)
         → length q + suc i < length place
         → Among (asserts by (take (length q + suc i) place) (dotted true))
         (asserts by here (dotted true) ∷ made)
     deeper zero k ih le =
-        let r = part_above place here others spot k in
+        let r = part_above place here others suffix k in
         let at_here : length q + 1 ≡ length here = sym size in
         inl (ap (λ (p : Place). asserts by p (dotted true)) (ap (λ (m : ℕ). take m place) at_here ∙ r.1))
     deeper (suc i) k ih le =
@@ -87,8 +87,8 @@ key_dotted place j by q n x (d ∷ ds) rest v spot e lt =
         (ih i k (omega (arith, size))))
 
     go : (b : Bool) → same_place here place ≡ b
-        → cond b (Some x) (behind_part unresolved place here others) ≡ Some spot
-        → ((m : ℕ) → behind_part unresolved place here others ≡ Some spot → length here + suc m < length place
+        → cond b (Some x) (behind_part unresolved place here others) ≡ Some suffix
+        → ((m : ℕ) → behind_part unresolved place here others ≡ Some suffix → length here + suc m < length place
         → Among (asserts by (take (length here + suc m) place) (dotted true)) made)
         → Among (asserts by (take (length q + suc j) place) (dotted true))
         (asserts by here (dotted true) ∷ made)
@@ -104,12 +104,12 @@ pub record OnTheWay (made : List Assertion) (there : Place) : Type 0 where
   pub place : one.place ≡ there
   pub kind : one.kind ≡ dotted true
 
-pair_dotted : (place table : Place) (j : ℕ) (k : Key) (a b : List ℕ) (v : Value) (behind spot : List ℕ)
-    → front_to place (placed_pair table k a b v behind) ≡ Some spot → length table + suc j < length place
+pair_dotted : (place table : Place) (j : ℕ) (k : Key) (a b : List ℕ) (v : Value) (behind suffix : List ℕ)
+    → front_to place (placed_pair table k a b v behind) ≡ Some suffix → length table + suc j < length place
     → OnTheWay (of_key true (named table (names k)) table (names k) v) (take (length table + suc j) place)
-pair_dotted place table j k a b v behind spot e lt = record {
+pair_dotted place table j k a b v behind suffix e lt = record {
   one = asserts (named table (names k)) (take (length table + suc j) place) (dotted true);
-  among = key_dotted place j (named table (names k)) table (name k.first) _ k.others _ v spot e lt;
+  among = key_dotted place j (named table (names k)) table (name k.first) _ k.others _ v suffix e lt;
   place = refl;
   kind = refl;
 }
@@ -122,25 +122,25 @@ wider xs ys zs there r = record {
   kind = r.kind;
 }
 
-members_dotted : (place table : Place) (j : ℕ) (p : PlacedPair) (ms : Members) (rest spot : List ℕ)
-    → Among p (paired_members table ms rest) → front_to place p ≡ Some spot
+members_dotted : (place table : Place) (j : ℕ) (p : PlacedPair) (ms : Members) (rest suffix : List ℕ)
+    → Among p (paired_members table ms rest) → front_to place p ≡ Some suffix
     → length table + suc j < length place
     → OnTheWay (of_members table ms) (take (length table + suc j) place)
-members_dotted place table j p no_members rest spot m e lt = absurd m
-members_dotted place table j p (last_member k a b v c) rest spot (inl is) e lt =
-    let r = pair_dotted place table j k a b v (gap c rest) spot (ap (front_to place) (sym is) ∙ e) lt in
+members_dotted place table j p no_members rest suffix m e lt = absurd m
+members_dotted place table j p (last_member k a b v c) rest suffix (inl is) e lt =
+    let r = pair_dotted place table j k a b v (gap c rest) suffix (ap (front_to place) (sym is) ∙ e) lt in
     record {
       one = r.one;
       among = among_left r.one _ (of_value (named table (names k)) v) r.among;
       place = r.place;
       kind = r.kind;
     }
-members_dotted place table j p (last_member k a b v c) rest spot (inr m) e lt = absurd m
-members_dotted place table j p (member k a b v c d ms) rest spot (inl is) e lt =
+members_dotted place table j p (last_member k a b v c) rest suffix (inr m) e lt = absurd m
+members_dotted place table j p (member k a b v c d ms) rest suffix (inl is) e lt =
     wider _ (of_value (named table (names k)) v) (of_members table ms) _
-    (pair_dotted place table j k a b v _ spot (ap (front_to place) (sym is) ∙ e) lt)
-members_dotted place table j p (member k a b v c d ms) rest spot (inr m) e lt =
-    let r = members_dotted place table j p ms rest spot m e lt in
+    (pair_dotted place table j k a b v _ suffix (ap (front_to place) (sym is) ∙ e) lt)
+members_dotted place table j p (member k a b v c d ms) rest suffix (inr m) e lt =
+    let r = members_dotted place table j p ms rest suffix m e lt in
     record {
       one = r.one;
       among = among_right r.one _ (of_members table ms) r.among;
@@ -166,13 +166,13 @@ value_pairs p w = go w.value
     go (array g es) m = absurd m
     go (inline g ms) m = refl
 
-value_dotted : (place : Place) (j : ℕ) (p : PlacedPair) (w : PlacedValue) (spot : List ℕ)
+value_dotted : (place : Place) (j : ℕ) (p : PlacedPair) (w : PlacedValue) (suffix : List ℕ)
     → Among p (paired_value w)
-    → front_to place p ≡ Some spot → length w.place + suc j < length place
+    → front_to place p ≡ Some suffix → length w.place + suc j < length place
     → OnTheWay (of_value w.place w.value) (take (length w.place + suc j) place)
-value_dotted place j p w spot = go w.value
+value_dotted place j p w suffix = go w.value
   where
-    go : (v : Value) → Among p (paired_value (record w { value = v })) → front_to place p ≡ Some spot
+    go : (v : Value) → Among p (paired_value (record w { value = v })) → front_to place p ≡ Some suffix
         → length w.place + suc j < length place
         → OnTheWay (of_value w.place v) (take (length w.place + suc j) place)
     go (basic ps) m e lt = absurd m
@@ -184,33 +184,33 @@ value_dotted place j p w spot = go w.value
     go (float f) m e lt = absurd m
     go (datetime d) m e lt = absurd m
     go (array g es) m e lt = absurd m
-    go (inline g ms) m e lt = members_dotted place w.place j p ms (right_brace ∷ w.after) spot m e lt
+    go (inline g ms) m e lt = members_dotted place w.place j p ms (right_brace ∷ w.after) suffix m e lt
 
 -- an inline table whose pair goes on behind the place stands above it
-stands_above : (place : Place) (p : PlacedPair) (w : PlacedValue) (spot : List ℕ) → Among p (paired_value w)
-    → front_to place p ≡ Some spot → (length w.place < length place) × (take (length w.place) place ≡ w.place)
-stands_above place p w spot m e =
+stands_above : (place : Place) (p : PlacedPair) (w : PlacedValue) (suffix : List ℕ) → Among p (paired_value w)
+    → front_to place p ≡ Some suffix → (length w.place < length place) × (take (length w.place) place ≡ w.place)
+stands_above place p w suffix m e =
     subst (λ (t : Place). (length t < length place) × (take (length t) place ≡ t)) (value_table p w m)
-    (part_above place p.table (front_parts p.parts) spot e)
+    (part_above place p.table (front_parts p.parts) suffix e)
 
-no_front : (place : Place) (p : PlacedPair) → ((spot : List ℕ) → front_to place p ≡ Some spot → ⊥)
+no_front : (place : Place) (p : PlacedPair) → ((suffix : List ℕ) → front_to place p ≡ Some suffix → ⊥)
     → inner_of place p ≡ None
 no_front place p never = go (front_to place p) refl
   where
     go : (o : Option (List ℕ)) → front_to place p ≡ o → inner_of place p ≡ None
-    go None e = ap (λ (x : Option (List ℕ)). option_map (λ (spot : List ℕ). made spot) x) e
+    go None e = ap (λ (x : Option (List ℕ)). option_map (λ (suffix : List ℕ). made suffix) x) e
       where
         made : List ℕ → Inner
-        made spot = record { from = length p.from; front = length spot; behind = length p.behind }
-    go (Some spot) e = absurd (never spot e)
+        made suffix = record { from = length p.from; front = length suffix; behind = length p.behind }
+    go (Some suffix) e = absurd (never suffix e)
 
 module _ (form : Text) (place : Place) (clash : AreCompatible (assertions form)) where
   -- none stands so far from the root, or further
   too_far : (from : ℕ) → NoneAbove form place from → (w : PlacedValue) → Among w (values form)
       → from ≤ length w.place
-      → (p : PlacedPair) → Among p (paired_value w) → (spot : List ℕ) → front_to place p ≡ Some spot → ⊥
-  too_far from none w among le p m spot e =
-      let r = stands_above place p w spot m e in
+      → (p : PlacedPair) → Among p (paired_value w) → (suffix : List ℕ) → front_to place p ≡ Some suffix → ⊥
+  too_far from none w among le p m suffix e =
+      let r = stands_above place p w suffix m e in
       true≢false (sym (value_pairs p w m)
       ∙ none (length w.place) le r.0 w (among_contained w (values form) among) (sym r.1))
 
@@ -224,14 +224,14 @@ module _ (form : Text) (place : Place) (clash : AreCompatible (assertions form))
   -- an inline table that stands above another one has no pair that goes on behind it
   too_near : (k start : ℕ) → k < length place → StartsTable form (take k place) start → (w : PlacedValue)
       → Among w (values form) → length w.place < k → (p : PlacedPair) → Among p (paired_value w)
-      → (spot : List ℕ)
-      → front_to place p ≡ Some spot → ⊥
-  too_near k start lt t w among near p m spot e =
+      → (suffix : List ℕ)
+      → front_to place p ≡ Some suffix → ⊥
+  too_near k start lt t w among near p m suffix e =
       let j = k - suc (length w.place) in
       let same : length w.place + suc j ≡ k = omega arith in
-      let r = value_dotted place j p w spot m e (omega arith) in
-      let told = value_told form w r.one among (inr r.among) in
-      let kind = value_alone form t.placed_value r.one clash (contained_among t.placed_value (values form) t.told) told
+      let r = value_dotted place j p w suffix m e (omega arith) in
+      let listed = value_assertion form w r.one among (inr r.among) in
+      let kind = value_alone form t.placed_value r.one clash (contained_among t.placed_value (values form) t.listed) listed
       (r.place ∙ ap (λ (n : ℕ). take n place) same ∙ sym t.there) in
       let clashes : dotted true ≡ leaf t.placed_value.value = sym r.kind ∙ kind in
       absurd cc
@@ -243,7 +243,7 @@ module _ (form : Text) (place : Place) (clash : AreCompatible (assertions form))
       ≡ last_result (inner_of place) (paired_members (take k place) t.all (right_brace ∷ t.placed_value.after))
   closest_inner k start lt t none =
       last_flat (inner_of place) paired_value (values form)
-      ∙ last_only made t.placed_value (values form) (contained_among t.placed_value (values form) t.told) each
+      ∙ last_only made t.placed_value (values form) (contained_among t.placed_value (values form) t.listed) each
       ∙ ap₂ (λ (v : Value) (q : Place). last_result (inner_of place)
       (paired_value (record t.placed_value { value = v; place = q })))
       t.is t.there
@@ -253,14 +253,14 @@ module _ (form : Text) (place : Place) (clash : AreCompatible (assertions form))
 
       other : (w : PlacedValue) → Among w (values form) → same_place w.place t.placed_value.place ≡ false
           → (p : PlacedPair)
-          → Among p (paired_value w) → (spot : List ℕ) → front_to place p ≡ Some spot → ⊥
-      other w among apart p m spot e =
-          let r = stands_above place p w spot m e in
+          → Among p (paired_value w) → (suffix : List ℕ) → front_to place p ≡ Some suffix → ⊥
+      other w among apart p m suffix e =
+          let r = stands_above place p w suffix m e in
           by_test (ltb (length w.place) k)
-          (λ h. too_near k start lt t w among (ltb-true (length w.place) k h) p m spot e)
+          (λ h. too_near k start lt t w among (ltb-true (length w.place) k h) p m suffix e)
           (λ h. by_test (ltb k (length w.place))
           (λ g. too_far (suc k) none w among (let x = ltb-true k (length w.place) g in
-          omega arith) p m spot e)
+          omega arith) p m suffix e)
           (λ g. let same : length w.place
           ≡ k = omega (arith, ltb-false (length w.place) k h, ltb-false k (length w.place) g) in
           true≢false (sym (ap (λ (q : Place). same_place w.place q)
@@ -270,7 +270,7 @@ module _ (form : Text) (place : Place) (clash : AreCompatible (assertions form))
       each : (w : PlacedValue) → Among w (values form) → (made w ≡ None) ⊎ (w ≡ t.placed_value)
       each w among =
           by_test (same_place w.place t.placed_value.place)
-          (λ h. inr (values_unique form w t.placed_value clash among (contained_among t.placed_value (values form) t.told)
+          (λ h. inr (values_unique form w t.placed_value clash among (contained_among t.placed_value (values form) t.listed)
           (same_place_is w.place t.placed_value.place h)))
           (λ h. inl (last_nothing (inner_of place) (paired_value w)
           (λ p m. no_front place p (other w among h p m))))

@@ -12,16 +12,16 @@ use Rattle.edit_syntax.specs.SyntaxTokens.{tokens_of_statement}
 use Rattle.edit_syntax.proofs.Members.{Among, among_append}
 use Rattle.edit_tree.specs.Assertions.{Place, key as name_step, at, same_place, Assertion, of_statement, prefix_after, IsDocument}
 use Rattle.edit_tree.specs.EditBytes.{unresolved, part_to}
-use Rattle.edit_rewrite.specs.EntrySpots.{StandsIn}
-use Rattle.edit_rewrite.specs.StatementOffsets.{IsSpot}
+use Rattle.edit_rewrite.specs.PairOffsets.{StandsIn}
+use Rattle.edit_rewrite.specs.StatementOffsets.{IsSuffix}
 use Rattle.edit_tree.specs.Statements.{PlacedStatement, stated_in, placed_statements, dotted_parts, behind_part, PlacedPair, placed_pair, paired_members, paired_value, paired_statement, line_pairs, inner_pairs}
 use Rattle.edit_tree.specs.Written.{PlacedValue, values}
 use Rattle.edit_document.proofs.Documents.{read_of, ends_all}
 use Rattle.edit_tree.proofs.Shallow.{shallow}
 use Rattle.edit_tree.proofs.Ends.{Ends, ends_past, ends_one, ends_part, ends_pair, ends_gap, ends_value, ends_line, ends_line_end}
 use Rattle.edit_tree.proofs.TablePairs.{among_flat}
-use Rattle.edit_rewrite.proofs.StatementSpots.{Starts, spot_of, blank_small, blanks_start, dotted_start, line_end_start, IsDotted}
-use Rattle.edit_rewrite.proofs.ValueSpots.{values_stand}
+use Rattle.edit_rewrite.proofs.StatementSuffixes.{Starts, suffix_of, blank_small, blanks_start, dotted_start, line_end_start, IsDotted}
+use Rattle.edit_rewrite.proofs.ValueSuffixes.{values_stand}
 
 -- ---- one pair
 
@@ -56,8 +56,8 @@ parts_start place table n (d ∷ ds) rest whole part h st ends e =
 
 -- the text may be cut behind the part of the key that names a place, and behind the value
 pub record Fits (bytes : List ℕ) (p : PlacedPair) : Type 0 where
-  pub part : (place : Place) (part : List ℕ) → part_to place p ≡ Some part → IsSpot bytes part
-  pub behind : IsSpot bytes p.behind
+  pub part : (place : Place) (part : List ℕ) → part_to place p ≡ Some part → IsSuffix bytes part
+  pub behind : IsSuffix bytes p.behind
 
 pub pair_fits : (bytes : List ℕ) (table : Place) (k : Key) (a b : List ℕ) (v : Value) (behind : List ℕ)
     → IsKey k
@@ -69,9 +69,9 @@ pair_fits bytes table k a b v behind h blanks st ends =
       part = λ place part e.
           let r = parts_start place table (name k.first) k.others rest bytes part h.1
           (blanks_start a _ blanks (omega arith)) (ends_part bytes k.first (dotted k.others rest) ends) e in
-          spot_of bytes part r.0 r.1;
+          suffix_of bytes part r.0 r.1;
       behind =
-          spot_of bytes behind (ends_value bytes v behind (ends_pair bytes k a b (value v behind) ends)) st;
+          suffix_of bytes behind (ends_value bytes v behind (ends_pair bytes k a b (value v behind) ends)) st;
     }
 
 -- ---- the pairs of inline tables
@@ -134,7 +134,7 @@ pub record StatedStands (bytes : List ℕ) (s : PlacedStatement) : Type 0 where
   pub spelled : s.line ≡ lines left
   pub well : AreLines left
   pub shallow : lines_depth left ≤ 80
-  pub marked : tokens_of_first_line left ≡ tokens_of_statement s.statement s.behind
+  pub tokens_are : tokens_of_first_line left ≡ tokens_of_statement s.statement s.behind
 
 comment_starts : (c : Option (List ℕ)) (rest : List ℕ) → Starts rest → Starts (comment c rest)
 comment_starts None rest st = st
@@ -154,7 +154,7 @@ stand_in bytes earlier prefix (one_line (full_line a st b c)) valid deep ends s 
       spelled = refl;
       well = valid;
       shallow = deep;
-      marked = refl;
+      tokens_are = refl;
     })
 stand_in bytes earlier prefix (one_line (full_line a st b c)) valid deep ends s (inr m) = absurd m
 stand_in bytes earlier prefix (more_lines (empty_line a c) e ls) valid deep ends s m =
@@ -169,7 +169,7 @@ stand_in bytes earlier prefix (more_lines (full_line a st b c) e ls) valid deep 
       spelled = refl;
       well = valid;
       shallow = deep;
-      marked = refl;
+      tokens_are = refl;
     })
 stand_in bytes earlier prefix (more_lines (full_line a st b c) e ls) valid deep ends s (inr m) =
     stand_in bytes (earlier ++ of_statement earlier prefix st) (prefix_after earlier prefix st) ls valid.1

@@ -8,7 +8,7 @@ use Rattle.edit_rewrite.specs.declared.path_matching.PathMatch.{PathMatch}
 use Rattle.edit_tree.specs.Assertions.{Place, Step, key, at, same_step, same_place}
 use Rattle.edit_tree.specs.EditBytes.{unresolved, is_within, first_of}
 use Rattle.edit_rewrite.specs.Entries.{is_at, begins_part, AreParts, key_target, FollowsKey}
-use Rattle.edit_rewrite.specs.EntrySpots.{key_end, part_offset}
+use Rattle.edit_rewrite.specs.PairOffsets.{key_end, part_offset}
 use Rattle.edit_tree.specs.Statements.{Named, front_parts, behind_part}
 use Rattle.edit_tree.proofs.SamePlace.{same_step_is, same_step_self}
 use Rattle.edit_rewrite.proofs.Ways.{same_is}
@@ -61,10 +61,10 @@ key_ends bytes e n (n2 ∷ ns) (m ∷ ms) h =
     ap (λ (b : Bool). cond b (key_end m.to ms) e) h.0 ∙ key_ends bytes m.to n2 ns ms h.3
 
 -- what is seen along a key is the part that names the place
-pub part_told : (bytes : List ℕ) (place table : Place) (n : Named) (ns : List Named) (ms : List SyntaxToken)
+pub part_offset_is : (bytes : List ℕ) (place table : Place) (n : Named) (ns : List Named) (ms : List SyntaxToken)
     (r : PathMatch × Option ℕ) → AreParts bytes (n ∷ ns) ms → FollowsKey place unresolved table (n ∷ ns) r
     → part_offset (length place) r.0 r.1 ms ≡ option_map length (behind_part unresolved place table (n ∷ ns))
-part_told bytes place table n ns ms r h g =
+part_offset_is bytes place table n ns ms r h g =
     let q = key_target unresolved table (n ∷ ns) in
     let fronts = behind_part unresolved place table (front_parts (n ∷ ns)) in
     let there : is_at (length place) r.0 ≡ same_place q place =

@@ -4,7 +4,7 @@ use Rattle.std.specs.Prelude.{IsUtf8, unwrap_or, codes}
 use Rattle.edit_syntax.specs.Characters.{right_brace}
 use Rattle.edit_syntax.specs.Grammar.{Between, gap, Value, basic, literal, multi_basic, multi_literal, boolean, integer, float, datetime, array, inline, value, Members, no_members, last_member, member, Text, text}
 use Rattle.edit_syntax.proofs.Members.{Among, among_contained, contained_among}
-use Rattle.edit_rewrite.specs.EntrySpots.{StandsIn}
+use Rattle.edit_rewrite.specs.PairOffsets.{StandsIn}
 use Rattle.edit_tree.specs.Assertions.{Place, same_place, AreCompatible, assertions, IsDocument}
 use Rattle.edit_tree.specs.EditBytes.{Splice, put_before, first_of, behind_last, is_blank_gap, inline_grown, in_inline, in_section, in_dotted, in_inner_dotted, in_super, at_start, inserted}
 use Rattle.edit_document.specs.Items.{is_inline}
@@ -14,28 +14,28 @@ use Rattle.edit_tree.specs.SlotTexts.{TableAt}
 use Rattle.edit_tree.specs.Tree.{view_at, is_value_at}
 use Rattle.edit_tree.specs.Written.{PlacedValue, values, start_of, IsWrittenAt}
 use Rattle.edit_tree.proofs.Choices.{first_nothing}
-use Rattle.edit_rewrite.proofs.InlineSpots.{inline_row}
+use Rattle.edit_rewrite.proofs.InlineSuffixes.{inline_row}
 use Rattle.edit_tree.proofs.SamePlace.{same_place_is}
 use Rattle.edit_rewrite.proofs.SetBytes.{drop_front}
 use Rattle.edit_tree.proofs.UniqueValues.{listed_value}
 use Rattle.edit_rewrite.proofs.ValueAssertions.{value_shows}
-use Rattle.edit_rewrite.proofs.ValueSpots.{values_stand}
+use Rattle.edit_rewrite.proofs.ValueSuffixes.{values_stand}
 
 -- ---- where an inline table begins
 
 -- nothing is written where no value is
 pub no_table : (form : Text) (place : Place) → is_value_at form place ≡ false → HasTable form place None
-no_table form place none w told there =
+no_table form place none w listed there =
     absurd (true≢false (sym (ap (λ (p : Place). is_value_at form p) (sym there)
-    ∙ listed_value form w (contained_among w (values form) told)) ∙ none))
+    ∙ listed_value form w (contained_among w (values form) listed)) ∙ none))
 
 -- nor where nothing stands
 pub no_view : (form : Text) (place : Place) → AreCompatible (assertions form) → view_at form place ≡ None
     → HasTable form place None
-no_view form place clash none w told there =
+no_view form place clash none w listed there =
     absurd (never (is_table_value w.value) (sym (ap (option_map is_inline) none)
     ∙ ap (λ (p : Place). option_map is_inline (view_at form p)) (sym there)
-    ∙ value_shows form w clash (contained_among w (values form) told)))
+    ∙ value_shows form w clash (contained_among w (values form) listed)))
   where
     never : (b : Bool) → None ≡ Some b → ⊥
     never b e = cc
@@ -43,8 +43,8 @@ no_view form place clash none w told there =
 -- what is written elsewhere is no table, where the place shows none
 pub other_value : (form : Text) (place : Place) → AreCompatible (assertions form)
     → option_map is_inline (view_at form place) ≡ Some false → HasTable form place None
-other_value form place clash none w told there =
-    some_same _ _ (sym (value_shows form w clash (contained_among w (values form) told))
+other_value form place clash none w listed there =
+    some_same _ _ (sym (value_shows form w clash (contained_among w (values form) listed))
     ∙ ap (λ (p : Place). option_map is_inline (view_at form p)) there ∙ none)
   where
     some_same : (a b : Bool) → Some a ≡ Some b → a ≡ b
@@ -68,12 +68,12 @@ pub own_table : (form : Text) (place : Place) (start end : ℕ) → AreCompatibl
     → StartsTable form place start
 own_table form place start end clash written shows =
     let w = written.placed_value in
-    let is = some_same _ _ (sym (value_shows form w clash (contained_among w (values form) written.told))
+    let is = some_same _ _ (sym (value_shows form w clash (contained_among w (values form) written.listed))
     ∙ ap (λ (p : Place). option_map is_inline (view_at form p)) written.there ∙ shows) in
     let parts = table_parts w.value is in
     record {
       placed_value = w;
-      told = written.told;
+      listed = written.listed;
       there = written.there;
       between = parts.0;
       all = parts.1;
@@ -100,7 +100,7 @@ pub table_from : (bytes : List ℕ) (form : Text) (place : Place) (start : ℕ) 
     → TableAt bytes (drop start bytes) t.between t.all t.placed_value.after
 table_from bytes form place start m u t =
     let w = t.placed_value in
-    let stands = values_stand bytes form m u w (contained_among w (values form) t.told) in
+    let stands = values_stand bytes form m u w (contained_among w (values form) t.listed) in
     let from = stands_from bytes form w start m stands t.starts in
     record {
       valid = rw t.is at stands.valid;
@@ -138,7 +138,7 @@ table_inserted form place name v start clash t =
     let m = new_pair name v [] in
     let w = t.placed_value in
     let s = grown_some m t.between t.all w.after in
-    let row = inline_row form place m w s.0 clash (contained_among w (values form) t.told) t.there
+    let row = inline_row form place m w s.0 clash (contained_among w (values form) t.listed) t.there
     (ap (λ (x : Value). inline_grown m x w.after) t.is ∙ s.1) in (
       s.0,
       s.1,

@@ -8,12 +8,12 @@ use Rattle.edit_rewrite.specs.declared.path_matching.PathMatch.TheVariants.{On, 
 use Rattle.edit_tree.specs.Assertions.{Place, key, at, same_place, AreCompatible, assertions}
 use Rattle.edit_tree.specs.EditBytes.{unresolved, part_to}
 use Rattle.edit_rewrite.specs.Entries.{path_match_on, path_match}
-use Rattle.edit_rewrite.specs.EntrySpots.{HasPairOffsets, HasPairOffsetsIn}
+use Rattle.edit_rewrite.specs.PairOffsets.{HasPairOffsets, HasPairOffsetsIn}
 use Rattle.edit_tree.specs.Statements.{Named, behind_part, PlacedPair, paired_value, inner_pairs}
 use Rattle.edit_tree.specs.Tree.{is_value_at}
 use Rattle.edit_tree.specs.Written.{PlacedValue, values}
 use Rattle.edit_rewrite.proofs.LineEntries.{flat_among}
-use Rattle.edit_rewrite.proofs.ToldPairs.{one_told}
+use Rattle.edit_rewrite.proofs.PairOffsetLemmas.{pair_around}
 use Rattle.edit_tree.proofs.TablePairs.{among_flat, value_table}
 use Rattle.edit_tree.proofs.SamePlace.{same_step_self, same_place_is}
 use Rattle.edit_tree.proofs.UniqueValues.{values_unique, listed_value}
@@ -35,25 +35,25 @@ front_way n target le = sym (way_front 0 n target le ∙ ap On (let k : 0 + n �
 -- ---- one table
 
 -- what is told of the pairs of the value at a front of the place
-pub inner_told : (form : Text) (place : Place) (n : ℕ) (w : PlacedValue) (o : Option (ℕ × ℕ))
+pub inner_offsets : (form : Text) (place : Place) (n : ℕ) (w : PlacedValue) (o : Option (ℕ × ℕ))
     → AreCompatible (assertions form)
     → Among w (values form) → w.place ≡ take n place → HasPairOffsets place (paired_value w) o
     → HasPairOffsetsIn form place n o
-inner_told form place n w None clash among there told = λ p listed table.
+inner_offsets form place n w None clash among there offsets = λ p listed table.
     let f = among_flat paired_value p (values form) (contained_among p (inner_pairs form) listed) in
     let same : f.0 ≡ w =
     values_unique form f.0 w clash f.1 among (sym (value_table p f.0 f.2) ∙ table ∙ sym there) in
-    told p (among_contained p (paired_value w) (subst (λ (x : PlacedValue). Among p (paired_value x)) same f.2))
-inner_told form place n w (Some r) clash among there told =
-    one_told place told.pair (inner_pairs form) told.part r
-    (flat_among paired_value w told.pair (values form) among
-    (contained_among told.pair (paired_value w) told.among))
-    told.named told.from told.to
+    offsets p (among_contained p (paired_value w) (subst (λ (x : PlacedValue). Among p (paired_value x)) same f.2))
+inner_offsets form place n w (Some r) clash among there offsets =
+    pair_around place offsets.pair (inner_pairs form) offsets.part r
+    (flat_among paired_value w offsets.pair (values form) among
+    (contained_among offsets.pair (paired_value w) offsets.among))
+    offsets.named offsets.from offsets.to
 
 -- where no value stands, no pair does in it
-pub no_inner_told : (form : Text) (place : Place) (n : ℕ) → is_value_at form (take n place) ≡ false
+pub no_inner_offsets : (form : Text) (place : Place) (n : ℕ) → is_value_at form (take n place) ≡ false
     → HasPairOffsetsIn form place n None
-no_inner_told form place n none = λ p listed table.
+no_inner_offsets form place n none = λ p listed table.
     let f = among_flat paired_value p (values form) (contained_among p (inner_pairs form) listed) in
     absurd (true≢false (sym (listed_value form f.0 f.1)
     ∙ ap (is_value_at form) (sym (value_table p f.0 f.2) ∙ table) ∙ none))

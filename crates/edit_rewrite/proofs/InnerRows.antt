@@ -13,19 +13,19 @@ use Rattle.edit_tree.specs.Statements.{PlacedPair, paired_members, paired_value,
 use Rattle.edit_tree.specs.Written.{PlacedValue, values}
 use Rattle.edit_tree.proofs.Choices.{Alike, last_none, last_chosen}
 use Rattle.edit_tree.proofs.Ends.{Ends, ends_one, ends_pair, ends_gap, ends_value}
-use Rattle.edit_rewrite.proofs.InlineSpots.{gap_starts}
+use Rattle.edit_rewrite.proofs.InlineSuffixes.{gap_starts}
 use Rattle.edit_tree.proofs.TablePairs.{among_flat}
-use Rattle.edit_rewrite.proofs.StatementSpots.{Starts, spot_of, part_start, key_fronts}
-use Rattle.edit_rewrite.proofs.ValueSpots.{values_stand}
+use Rattle.edit_rewrite.proofs.StatementSuffixes.{Starts, suffix_of, part_start, key_fronts}
+use Rattle.edit_rewrite.proofs.ValueSuffixes.{values_stand}
 
 -- ---- the pair that is chosen
 
 -- a member behind this one
 abbrev pub inner_splice : PlacedPair → List ℕ → List ℕ → Splice
-inner_splice p spot m = put_before p.behind (codes ", " ++ dotted_pair p spot m)
+inner_splice p suffix m = put_before p.behind (codes ", " ++ dotted_pair p suffix m)
 
 abbrev inner_grown : Place → List ℕ → PlacedPair → Option Splice
-inner_grown place m p = option_map (λ spot. inner_splice p spot m) (front_to place p)
+inner_grown place m p = option_map (λ suffix. inner_splice p suffix m) (front_to place p)
 
 map_none : {A B C : Type 0} (f : A → B) (g : A → C) (o : Option A) → option_map f o ≡ None
     → option_map g o ≡ None
@@ -42,9 +42,9 @@ itself p = p
 
 inner_alike : (place : Place) (m : List ℕ) → Alike (inner_of place) (inner_grown place m) itself
 inner_alike place m = record {
-  none = λ p e. map_none _ (λ spot. inner_splice p spot m) (front_to place p) e;
+  none = λ p e. map_none _ (λ suffix. inner_splice p suffix m) (front_to place p) e;
   some = λ p b e. let r = map_some _ (front_to place p) b e in
-      (inner_splice p r.0 m, ap (option_map (λ spot. inner_splice p spot m)) r.1);
+      (inner_splice p r.0 m, ap (option_map (λ suffix. inner_splice p suffix m)) r.1);
 }
 
 all_themselves : (ps : List PlacedPair) → map itself ps ≡ ps
@@ -55,10 +55,10 @@ all_themselves (p ∷ ps) = ap (λ (l : List PlacedPair). p ∷ l) (all_themselv
 pub record InnerRow (place : Place) (form : Text) (m : List ℕ) (e : Inner) : Type 0 where
   pub pair : PlacedPair
   pub among : Among pair (inner_pairs form)
-  pub spot : List ℕ
-  pub front : front_to place pair ≡ Some spot
+  pub suffix : List ℕ
+  pub front : front_to place pair ≡ Some suffix
   pub is : inner_of place pair ≡ Some e
-  pub row : in_inner_dotted place m form ≡ Some (inner_splice pair spot m)
+  pub row : in_inner_dotted place m form ≡ Some (inner_splice pair suffix m)
 
 pub inner_chosen : (form : Text) (place : Place) (m : List ℕ) (e : Inner)
     → last_result (inner_of place) (inner_pairs form) ≡ Some e → InnerRow place form m e
@@ -70,10 +70,10 @@ inner_chosen form place m e h =
     record {
       pair = ch.one;
       among = ch.among;
-      spot = r.0;
+      suffix = r.0;
       front = r.1;
       is = ch.made;
-      row = ch.is ∙ ap (option_map (λ spot. inner_splice ch.one spot m)) r.1;
+      row = ch.is ∙ ap (option_map (λ suffix. inner_splice ch.one suffix m)) r.1;
     }
 
 pub inner_nothing : (form : Text) (place : Place) (m : List ℕ)
@@ -84,44 +84,44 @@ inner_nothing form place m h =
 
 -- ---- where it stands
 
-members_inner : (bytes : List ℕ) (place table : Place) (p : PlacedPair) (ms : Members) (rest spot : List ℕ)
+members_inner : (bytes : List ℕ) (place table : Place) (p : PlacedPair) (ms : Members) (rest suffix : List ℕ)
     → AreMembers ms → Ends bytes (members ms rest) → Starts rest → Among p (paired_members table ms rest)
-    → front_to place p ≡ Some spot → HasInner bytes p spot
-members_inner bytes place table p no_members rest spot h ends st m f = absurd m
-members_inner bytes place table p (last_member k a b v c) rest spot h ends st (inl is) f =
+    → front_to place p ≡ Some suffix → HasInner bytes p suffix
+members_inner bytes place table p no_members rest suffix h ends st m f = absurd m
+members_inner bytes place table p (last_member k a b v c) rest suffix h ends st (inl is) f =
     let more = a ++ (equals ∷ (b ++ value v (gap c rest))) in
-    subst (λ (x : PlacedPair). HasInner bytes x spot) (sym is) (record {
-      from = spot_of bytes (key k more) ends (part_start k more h.0);
-      front = key_fronts bytes k more unresolved place table spot h.0 ends (ap (front_to place) (sym is) ∙ f);
-      behind = spot_of bytes (gap c rest)
+    subst (λ (x : PlacedPair). HasInner bytes x suffix) (sym is) (record {
+      from = suffix_of bytes (key k more) ends (part_start k more h.0);
+      front = key_fronts bytes k more unresolved place table suffix h.0 ends (ap (front_to place) (sym is) ∙ f);
+      behind = suffix_of bytes (gap c rest)
           (ends_value bytes v _ (ends_pair bytes k a b (value v (gap c rest)) ends))
           (gap_starts c rest h.4 st);
     })
-members_inner bytes place table p (last_member k a b v c) rest spot h ends st (inr m) f = absurd m
-members_inner bytes place table p (member k a b v c d ms) rest spot h ends st (inl is) f =
+members_inner bytes place table p (last_member k a b v c) rest suffix h ends st (inr m) f = absurd m
+members_inner bytes place table p (member k a b v c d ms) rest suffix h ends st (inl is) f =
     let behind = gap c (comma ∷ gap d (members ms rest)) in
     let more = a ++ (equals ∷ (b ++ value v behind)) in
-    subst (λ (x : PlacedPair). HasInner bytes x spot) (sym is) (record {
-      from = spot_of bytes (key k more) ends (part_start k more h.0);
-      front = key_fronts bytes k more unresolved place table spot h.0 ends (ap (front_to place) (sym is) ∙ f);
-      behind = spot_of bytes behind (ends_value bytes v _ (ends_pair bytes k a b (value v behind) ends))
+    subst (λ (x : PlacedPair). HasInner bytes x suffix) (sym is) (record {
+      from = suffix_of bytes (key k more) ends (part_start k more h.0);
+      front = key_fronts bytes k more unresolved place table suffix h.0 ends (ap (front_to place) (sym is) ∙ f);
+      behind = suffix_of bytes behind (ends_value bytes v _ (ends_pair bytes k a b (value v behind) ends))
           (gap_starts c _ h.4 (omega arith));
     })
-members_inner bytes place table p (member k a b v c d ms) rest spot h ends st (inr m) f =
+members_inner bytes place table p (member k a b v c d ms) rest suffix h ends st (inr m) f =
     let behind = gap c (comma ∷ gap d (members ms rest)) in
-    members_inner bytes place table p ms rest spot h.6
+    members_inner bytes place table p ms rest suffix h.6
     (ends_gap bytes d _ (ends_one bytes comma _ (ends_gap bytes c _ (ends_value bytes v _
     (ends_pair bytes k a b (value v behind) ends))))) st m f
 
-value_inner : (bytes : List ℕ) (place : Place) (p : PlacedPair) (w : PlacedValue) (spot : List ℕ)
+value_inner : (bytes : List ℕ) (place : Place) (p : PlacedPair) (w : PlacedValue) (suffix : List ℕ)
     → IsValue w.value
-    → Ends bytes (value w.value w.after) → Among p (paired_value w) → front_to place p ≡ Some spot
-    → HasInner bytes p spot
-value_inner bytes place p w spot = go w.value
+    → Ends bytes (value w.value w.after) → Among p (paired_value w) → front_to place p ≡ Some suffix
+    → HasInner bytes p suffix
+value_inner bytes place p w suffix = go w.value
   where
     go : (v : Value) → IsValue v → Ends bytes (value v w.after)
         → Among p (paired_value (record w { value = v }))
-        → front_to place p ≡ Some spot → HasInner bytes p spot
+        → front_to place p ≡ Some suffix → HasInner bytes p suffix
     go (basic ps) h ends m f = absurd m
     go (literal t) h ends m f = absurd m
     go (multi_basic ps) h ends m f = absurd m
@@ -132,23 +132,23 @@ value_inner bytes place p w spot = go w.value
     go (datetime d) h ends m f = absurd m
     go (array g es) h ends m f = absurd m
     go (inline g ms) h ends m f =
-        members_inner bytes place w.place p ms (right_brace ∷ w.after) spot h.1
+        members_inner bytes place w.place p ms (right_brace ∷ w.after) suffix h.1
         (ends_gap bytes g _ (ends_one bytes left_brace _ ends)) (omega arith) m f
 
 -- the pairs of a document's inline tables stand where it may be cut
-pub inner_stands : (bytes : List ℕ) (form : Text) (place : Place) (p : PlacedPair) (spot : List ℕ)
-    → IsDocument bytes form → IsUtf8 bytes → Among p (inner_pairs form) → front_to place p ≡ Some spot
-    → HasInner bytes p spot
-inner_stands bytes form place p spot m u among f =
+pub inner_stands : (bytes : List ℕ) (form : Text) (place : Place) (p : PlacedPair) (suffix : List ℕ)
+    → IsDocument bytes form → IsUtf8 bytes → Among p (inner_pairs form) → front_to place p ≡ Some suffix
+    → HasInner bytes p suffix
+inner_stands bytes form place p suffix m u among f =
     let w = among_flat paired_value p (values form) among in
     let stands = values_stand bytes form m u w.0 w.1 in
-    value_inner bytes place p w.0 spot stands.valid stands.ends w.2 f
+    value_inner bytes place p w.0 suffix stands.valid stands.ends w.2 f
 
 -- by how many bytes follow
-pub inner_is : (place : Place) (p : PlacedPair) (spot : List ℕ) (e : Inner) → front_to place p ≡ Some spot
+pub inner_is : (place : Place) (p : PlacedPair) (suffix : List ℕ) (e : Inner) → front_to place p ≡ Some suffix
     → inner_of place p ≡ Some e
-    → e ≡ record { from = length p.from; front = length spot; behind = length p.behind }
-inner_is place p spot e f h = some_same _ e (sym (ap (option_map made) f) ∙ h)
+    → e ≡ record { from = length p.from; front = length suffix; behind = length p.behind }
+inner_is place p suffix e f h = some_same _ e (sym (ap (option_map made) f) ∙ h)
   where
     made : List ℕ → Inner
     made x = record { from = length p.from; front = length x; behind = length p.behind }

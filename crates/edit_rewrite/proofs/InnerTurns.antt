@@ -48,7 +48,7 @@ or_none (Some x) = refl
 pub inner_made : (s behind from rest : List ℕ) (front : Option ℕ) (o : Option (List ℕ)) (r : Option Inner)
     → r ≡ option_map (λ n. record { from = length s; front = n; behind = length behind }) front
     → front ≡ option_map length o → s ≡ from → behind ≡ rest
-    → r ≡ option_map (λ spot. record { from = length from; front = length spot; behind = length rest }) o
+    → r ≡ option_map (λ suffix. record { from = length from; front = length suffix; behind = length rest }) o
 inner_made s behind from rest front o r e f is_s is_b =
     e ∙ ap (option_map (λ n. made s behind n)) f ∙
     ap₂ (λ (x y : List ℕ). option_map (λ n. made x y n) (option_map length o)) is_s is_b
@@ -58,6 +58,6 @@ inner_made s behind from rest front o r e f is_s is_b =
     made x y n = record { from = length x; front = n; behind = length y }
 
     go : (p : Option (List ℕ)) → option_map (λ n. made from rest n) (option_map length p)
-        ≡ option_map (λ (spot : List ℕ). made from rest (length spot)) p
+        ≡ option_map (λ (suffix : List ℕ). made from rest (length suffix)) p
     go None = refl
     go (Some x) = refl

@@ -42,10 +42,10 @@ abbrev dotted_splice : Place → List ℕ → PlacedStatement → Option Splice
 dotted_splice place m s = first_result (line_of s) (paired_statement s)
   where
     line_of : PlacedStatement → PlacedPair → Option Splice
-    line_of s p = option_map (λ spot. new_line s.after (dotted_pair p spot m)) (front_to place p)
+    line_of s p = option_map (λ suffix. new_line s.after (dotted_pair p suffix m)) (front_to place p)
 
 abbrev dotted_line : PlacedStatement → List ℕ → List ℕ → Splice
-dotted_line s m spot = new_line s.after (key_to s spot ++ (codes "." ++ m))
+dotted_line s m suffix = new_line s.after (key_to s suffix ++ (codes "." ++ m))
 
 dotted_is : (place : Place) (m : List ℕ) (s : PlacedStatement) → dotted_splice place m s
     ≡ cond (is_pair s.statement) (option_map (dotted_line s m) (front_of place s)) None
@@ -69,7 +69,7 @@ pair_none false o x f e = refl
 
 pair_some : (p : Bool) (o : Option (List ℕ)) (x z : Entry)
     → cond (not (not p) && is_some (option_map length o)) (Some x) None ≡ Some z
-    → (spot : List ℕ) × (p ≡ true) × (o ≡ Some spot) × (x ≡ z)
+    → (suffix : List ℕ) × (p ≡ true) × (o ≡ Some suffix) × (x ≡ z)
 pair_some true None x z e = absurd cc
 pair_some true (Some s) x z e = (s, refl, refl, cc)
 pair_some false o x z e = absurd cc
@@ -91,11 +91,11 @@ through_splice place m s = first_result grow (headed_statement s)
   where
     grow : PlacedHeader → Option Splice
     grow h =
-        option_map (λ spot. put_before h.line (section_text (before h.from spot) m))
+        option_map (λ suffix. put_before h.line (section_text (before h.from suffix) m))
         (behind_part (last_element_or_self h.earlier) place [] (front_parts h.parts))
 
 abbrev through_section : PlacedStatement → List ℕ → List ℕ → Splice
-through_section s m spot = put_before s.line (section_text (key_to s spot) m)
+through_section s m suffix = put_before s.line (section_text (key_to s suffix) m)
 
 through_is : (place : Place) (m : List ℕ) (s : PlacedStatement) → through_splice place m s
     ≡ cond (is_pair s.statement) None (option_map (through_section s m) (front_of place s))
@@ -120,7 +120,7 @@ header_none true o x f e = refl
 
 header_some : (p : Bool) (o : Option (List ℕ)) (x z : Entry)
     → cond (not p && is_some (option_map length o)) (Some x) None ≡ Some z
-    → (spot : List ℕ) × (p ≡ false) × (o ≡ Some spot) × (x ≡ z)
+    → (suffix : List ℕ) × (p ≡ false) × (o ≡ Some suffix) × (x ≡ z)
 header_some false None x z e = absurd cc
 header_some false (Some s) x z e = (s, refl, refl, cc)
 header_some true o x z e = absurd cc
@@ -187,8 +187,8 @@ module _ (form : Text) (place : Place) (name : List ℕ) (v : NewValue)
   -- behind the last pair whose key goes on behind the table
   pub dotted_row : (e : Entry) → last_result own_entry es ≡ None → last_result dotted_entry es ≡ Some e
       → (s : PlacedStatement) × Among s (placed_statements form) × (e ≡ entry_of place s)
-      × (spot : List ℕ) × (front_of place s ≡ Some spot)
-      × (inserted place name v form ≡ dotted_line s (new_pair name v []) spot)
+      × (suffix : List ℕ) × (front_of place s ≡ Some suffix)
+      × (inserted place name v form ≡ dotted_line s (new_pair name v []) suffix)
   dotted_row e none h =
       let m = new_pair name v [] in
       let ch = last_chosen dotted_entry (dotted_splice place m) (entry_of place) (dotted_alike place m)
@@ -220,7 +220,7 @@ module _ (form : Text) (place : Place) (name : List ℕ) (v : NewValue)
   -- behind the last pair, of an inline table, whose key goes on behind the table
   pub inner_row : (e : Inner) → last_result own_entry es ≡ None → last_result dotted_entry es ≡ None
       → inner ≡ Some e → (r : InnerRow place form (new_pair name v []) e)
-      × (inserted place name v form ≡ inner_splice r.pair r.spot (new_pair name v []))
+      × (inserted place name v form ≡ inner_splice r.pair r.suffix (new_pair name v []))
   inner_row e none no_pair h =
       let m = new_pair name v [] in
       let r = inner_chosen form place m e (sym found ∙ h) in (
@@ -249,8 +249,8 @@ module _ (form : Text) (place : Place) (name : List ℕ) (v : NewValue)
   pub through_row : (e : Entry) → last_result own_entry es ≡ None → last_result dotted_entry es ≡ None
       → inner ≡ None → first_result through_entry es ≡ Some e
       → (s : PlacedStatement) × Among s (placed_statements form) × (e ≡ entry_of place s)
-      × (spot : List ℕ) × (front_of place s ≡ Some spot)
-      × (inserted place name v form ≡ through_section s (new_pair name v []) spot)
+      × (suffix : List ℕ) × (front_of place s ≡ Some suffix)
+      × (inserted place name v form ≡ through_section s (new_pair name v []) suffix)
   through_row e none no_pair no_inner h =
       let m = new_pair name v [] in
       let ch = first_chosen through_entry (through_splice place m) (entry_of place) (through_alike place m)

@@ -10,11 +10,11 @@ use Rattle.edit_tree.specs.Assertions.{IsDocument, Place}
 use Rattle.edit_tree.specs.EditBytes.{Splice, put_before, with_splice, first_result, last_result, new_line, in_inline, front_to, dotted_pair, at_start, inserted, inserted_text}
 use Rattle.edit_tree.specs.NewItems.{NewValue, new_pair}
 use Rattle.edit_rewrite.specs.Entries.{front_of, entry_of}
-use Rattle.edit_rewrite.specs.StatementOffsets.{IsSpot, HasOffsets, key_to, section_text, own_entry, dotted_entry, through_entry}
+use Rattle.edit_rewrite.specs.StatementOffsets.{IsSuffix, HasOffsets, key_to, section_text, own_entry, dotted_entry, through_entry}
 use Rattle.edit_tree.specs.Statements.{PlacedStatement, placed_statements, PlacedPair, inner_pairs}
 use Rattle.edit_rewrite.proofs.InnerRows.{InnerRow, inner_splice, inner_stands}
 use Rattle.edit_rewrite.proofs.InsertedLines.{row_of, own_row, dotted_row, inner_row, through_row, start_row}
-use Rattle.edit_rewrite.proofs.StatementSpots.{stated_spots}
+use Rattle.edit_rewrite.proofs.StatementSuffixes.{stated_offsets}
 
 -- a call's text is the one with the splice that the row gives
 spliced : {E : Type 0} (r : Result (String Global) E) (bytes spelled : List ℕ) (was is : Splice)
@@ -37,7 +37,7 @@ module _ {E : Type 0} (r : Result (String Global) E) (bytes pair : List ℕ) (ut
 
   -- behind the last statement of the table's own
   pub own_text : (e : Entry) → last_result own_entry es ≡ Some e
-      → ((rest : List ℕ) → IsSpot bytes rest → e.after ≡ length rest
+      → ((rest : List ℕ) → IsSuffix bytes rest → e.after ≡ length rest
       → IfOk r (λ t. string_bytes t ≡ with_splice bytes (new_line rest pair)))
       → IfOk r (λ t. string_bytes t ≡ inserted_text place name v form)
   own_text e h call =
@@ -48,34 +48,34 @@ module _ {E : Type 0} (r : Result (String Global) E) (bytes pair : List ℕ) (ut
           → inserted place name v form ≡ new_line s.after (new_pair name v [])
           → IfOk r (λ t. string_bytes t ≡ inserted_text place name v form)
       go s among at row = written (new_line s.after) row
-          (call s.after (stated_spots bytes form m utf8 s among).after (ap (λ (x : Entry). x.after) at))
+          (call s.after (stated_offsets bytes form m utf8 s among).after (ap (λ (x : Entry). x.after) at))
 
   -- behind the last pair whose key goes on behind the table
   pub dotted_text : (e : Entry) → last_result own_entry es ≡ None → last_result dotted_entry es ≡ Some e
-      → ((p : Place) (s : PlacedStatement) (spot : List ℕ) → HasOffsets bytes s → e ≡ entry_of p s
-      → front_of p s ≡ Some spot → IfOk r (λ t. string_bytes t
-      ≡ with_splice bytes (new_line s.after (key_to s spot ++ (codes "." ++ pair)))))
+      → ((p : Place) (s : PlacedStatement) (suffix : List ℕ) → HasOffsets bytes s → e ≡ entry_of p s
+      → front_of p s ≡ Some suffix → IfOk r (λ t. string_bytes t
+      ≡ with_splice bytes (new_line s.after (key_to s suffix ++ (codes "." ++ pair)))))
       → IfOk r (λ t. string_bytes t ≡ inserted_text place name v form)
   dotted_text e no_own h call =
       let row = dotted_row form place name v (row_of form place name v pair none is) inner found es all e
       no_own h in
       go row.0 row.1 row.2 row.3 row.4 row.5
     where
-      go : (s : PlacedStatement) → Among s (placed_statements form) → e ≡ entry_of place s → (spot : List ℕ)
-          → front_of place s ≡ Some spot
+      go : (s : PlacedStatement) → Among s (placed_statements form) → e ≡ entry_of place s → (suffix : List ℕ)
+          → front_of place s ≡ Some suffix
           → inserted place name v form
-          ≡ new_line s.after (key_to s spot ++ (codes "." ++ new_pair name v []))
+          ≡ new_line s.after (key_to s suffix ++ (codes "." ++ new_pair name v []))
           → IfOk r (λ t. string_bytes t ≡ inserted_text place name v form)
-      go s among at spot front row =
-          written (λ (p : List ℕ). new_line s.after (key_to s spot ++ (codes "." ++ p))) row
-          (call place s spot (stated_spots bytes form m utf8 s among) at front)
+      go s among at suffix front row =
+          written (λ (p : List ℕ). new_line s.after (key_to s suffix ++ (codes "." ++ p))) row
+          (call place s suffix (stated_offsets bytes form m utf8 s among) at front)
 
   -- behind the last pair, of an inline table, whose key goes on behind the table
   pub inner_text : (e : Inner) → last_result own_entry es ≡ None → last_result dotted_entry es ≡ None
       → inner ≡ Some e
-      → ((p : Place) (q : PlacedPair) (spot : List ℕ) → HasInner bytes q spot → front_to p q ≡ Some spot
+      → ((p : Place) (q : PlacedPair) (suffix : List ℕ) → HasInner bytes q suffix → front_to p q ≡ Some suffix
       → inner_of p q ≡ Some e → IfOk r (λ t. string_bytes t
-      ≡ with_splice bytes (put_before q.behind (codes ", " ++ dotted_pair q spot pair))))
+      ≡ with_splice bytes (put_before q.behind (codes ", " ++ dotted_pair q suffix pair))))
       → IfOk r (λ t. string_bytes t ≡ inserted_text place name v form)
   inner_text e no_own no_pair h call =
       let row = inner_row form place name v (row_of form place name v pair none is) inner found es all e
@@ -83,32 +83,32 @@ module _ {E : Type 0} (r : Result (String Global) E) (bytes pair : List ℕ) (ut
       go row.0 row.1
     where
       go : (w : InnerRow place form (new_pair name v []) e)
-          → inserted place name v form ≡ inner_splice w.pair w.spot (new_pair name v [])
+          → inserted place name v form ≡ inner_splice w.pair w.suffix (new_pair name v [])
           → IfOk r (λ t. string_bytes t ≡ inserted_text place name v form)
       go w row =
-          written (inner_splice w.pair w.spot) row
-          (call place w.pair w.spot (inner_stands bytes form place w.pair w.spot m utf8 w.among w.front)
+          written (inner_splice w.pair w.suffix) row
+          (call place w.pair w.suffix (inner_stands bytes form place w.pair w.suffix m utf8 w.among w.front)
           w.front w.is)
 
   -- before the first header whose key goes on behind the table
   pub through_text : (e : Entry) → last_result own_entry es ≡ None → last_result dotted_entry es ≡ None
       → inner ≡ None → first_result through_entry es ≡ Some e
-      → ((p : Place) (s : PlacedStatement) (spot : List ℕ) → HasOffsets bytes s → e ≡ entry_of p s
-      → front_of p s ≡ Some spot → IfOk r (λ t. string_bytes t
-      ≡ with_splice bytes (put_before s.line (section_text (key_to s spot) pair))))
+      → ((p : Place) (s : PlacedStatement) (suffix : List ℕ) → HasOffsets bytes s → e ≡ entry_of p s
+      → front_of p s ≡ Some suffix → IfOk r (λ t. string_bytes t
+      ≡ with_splice bytes (put_before s.line (section_text (key_to s suffix) pair))))
       → IfOk r (λ t. string_bytes t ≡ inserted_text place name v form)
   through_text e no_own no_pair no_inner h call =
       let row = through_row form place name v (row_of form place name v pair none is) inner found es all e
       no_own no_pair no_inner h in
       go row.0 row.1 row.2 row.3 row.4 row.5
     where
-      go : (s : PlacedStatement) → Among s (placed_statements form) → e ≡ entry_of place s → (spot : List ℕ)
-          → front_of place s ≡ Some spot
-          → inserted place name v form ≡ put_before s.line (section_text (key_to s spot) (new_pair name v []))
+      go : (s : PlacedStatement) → Among s (placed_statements form) → e ≡ entry_of place s → (suffix : List ℕ)
+          → front_of place s ≡ Some suffix
+          → inserted place name v form ≡ put_before s.line (section_text (key_to s suffix) (new_pair name v []))
           → IfOk r (λ t. string_bytes t ≡ inserted_text place name v form)
-      go s among at spot front row =
-          written (λ (p : List ℕ). put_before s.line (section_text (key_to s spot) p)) row
-          (call place s spot (stated_spots bytes form m utf8 s among) at front)
+      go s among at suffix front row =
+          written (λ (p : List ℕ). put_before s.line (section_text (key_to s suffix) p)) row
+          (call place s suffix (stated_offsets bytes form m utf8 s among) at front)
 
   -- at the start of the text
   pub start_text : last_result own_entry es ≡ None → last_result dotted_entry es ≡ None → inner ≡ None

@@ -137,22 +137,22 @@ more_along bytes target counts resolve table n (n2 ∷ ns) m ms start here next 
 
 -- ---- the same of marks that are not taken apart
 
-pub says_first : (bytes : List ℕ) (n : Named) (ns : List Named) (marks : List SyntaxToken) (x : SyntaxToken)
-    → AreParts bytes (n ∷ ns) marks → IsDecodedAt bytes (get_or marks 0 x) n.0
+pub says_first : (bytes : List ℕ) (n : Named) (ns : List Named) (tokens : List SyntaxToken) (x : SyntaxToken)
+    → AreParts bytes (n ∷ ns) tokens → IsDecodedAt bytes (get_or tokens 0 x) n.0
 says_first bytes n ns [] x h = absurd h
 says_first bytes n ns (m ∷ ms) x h = h.1
 
 -- the marks behind the first
 abbrev pub others : List SyntaxToken → List SyntaxToken
-others marks = take (length marks - 1) (drop 1 marks)
+others tokens = take (length tokens - 1) (drop 1 tokens)
 
 others_are : (m : SyntaxToken) (ms : List SyntaxToken) → others (m ∷ ms) ≡ ms
 others_are m ms = let k : suc (length ms) - 1 ≡ length ms = omega arith in
     ap (λ (n : ℕ). take n ms) k ∙ take-length ms
 
 pub last_way : (bytes : List ℕ) (target : Place) (resolve : Place → Place) (table : Place) (n : Named)
-    (ns : List Named) (marks : List SyntaxToken) (start here : PathMatch) (said : List ℕ)
-    → AreParts bytes (n ∷ ns) marks → begins_part (others marks) ≡ false → start ≡ path_match target table
+    (ns : List Named) (tokens : List SyntaxToken) (start here : PathMatch) (said : List ℕ)
+    → AreParts bytes (n ∷ ns) tokens → begins_part (others tokens) ≡ false → start ≡ path_match target table
     → said ≡ n.0 → here ≡ extend_path_match target start (key said)
     → FollowsKey target resolve table (n ∷ ns) (here, None)
 last_way bytes target resolve table n ns [] start here said h over begins same is = absurd h
@@ -161,14 +161,14 @@ last_way bytes target resolve table n ns (x ∷ ms) start here said h over begin
     (ap begins_part (sym (others_are x ms)) ∙ over) begins same is
 
 pub more_way : (bytes : List ℕ) (target : Place) (counts : List ℕ) (resolve : Place → Place) (table : Place)
-    (n : Named) (ns : List Named) (marks : List SyntaxToken) (x : SyntaxToken) (start here next : PathMatch) (said : List ℕ)
+    (n : Named) (ns : List Named) (tokens : List SyntaxToken) (x : SyntaxToken) (start here next : PathMatch) (said : List ℕ)
     (r : PathMatch × Option ℕ)
-    → Promises bytes target counts (others marks) next r → AreParts bytes (n ∷ ns) marks
-    → begins_part (others marks) ≡ true → Follows target counts resolve → start ≡ path_match target table
+    → Promises bytes target counts (others tokens) next r → AreParts bytes (n ∷ ns) tokens
+    → begins_part (others tokens) ≡ true → Follows target counts resolve → start ≡ path_match target table
     → said ≡ n.0
     → here ≡ extend_path_match target start (key said) → next ≡ last_element_match target counts here
     → (c : Bool) → c ≡ is_at (length target) next
-    → FollowsKey target resolve table (n ∷ ns) (r.0, cond c (Some (get_or marks 0 x).to) r.1)
+    → FollowsKey target resolve table (n ∷ ns) (r.0, cond c (Some (get_or tokens 0 x).to) r.1)
 more_way bytes target counts resolve table n ns [] x start here next said r rec h more follows begins same is
     goes c at_it = absurd h
 more_way bytes target counts resolve table n ns
@@ -219,14 +219,14 @@ header_led earlier k rest = led_header earlier [] (parts k rest) ∙
 
 -- ---- the mark behind a key
 
-pub head_turn : (marks : List SyntaxToken) (i : ℕ) (m : SyntaxToken) → slice_get marks i ≡ Some m
+pub head_turn : (tokens : List SyntaxToken) (i : ℕ) (m : SyntaxToken) → slice_get tokens i ≡ Some m
     → is_part m.kind ≡ true
-    → kind_after_key (drop i marks) ≡ kind_after_key (drop (i + 1) marks)
-head_turn marks i m e p = ap kind_after_key (drop_from marks i m e) ∙
-    ap (λ b. cond b (kind_after_key (drop (i + 1) marks)) (Some m.kind)) p
+    → kind_after_key (drop i tokens) ≡ kind_after_key (drop (i + 1) tokens)
+head_turn tokens i m e p = ap kind_after_key (drop_from tokens i m e) ∙
+    ap (λ b. cond b (kind_after_key (drop (i + 1) tokens)) (Some m.kind)) p
 
-pub head_found : (marks : List SyntaxToken) (i : ℕ) (m : SyntaxToken) → slice_get marks i ≡ Some m
+pub head_found : (tokens : List SyntaxToken) (i : ℕ) (m : SyntaxToken) → slice_get tokens i ≡ Some m
     → is_part m.kind ≡ false
-    → kind_after_key (drop i marks) ≡ Some m.kind
-head_found marks i m e p = ap kind_after_key (drop_from marks i m e) ∙
-    ap (λ b. cond b (kind_after_key (drop (i + 1) marks)) (Some m.kind)) p
+    → kind_after_key (drop i tokens) ≡ Some m.kind
+head_found tokens i m e p = ap kind_after_key (drop_from tokens i m e) ∙
+    ap (λ b. cond b (kind_after_key (drop (i + 1) tokens)) (Some m.kind)) p

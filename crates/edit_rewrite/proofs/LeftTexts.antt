@@ -13,7 +13,7 @@ use Rattle.edit_tree.specs.Slots.{Slot, of_value, of_pair, slot, IsSlot, Slots, 
 use Rattle.edit_tree.proofs.Ends.{text_before, text_behind, one_text}
 use Rattle.edit_rewrite.proofs.SlotKeys.{array_enclosed, inline_enclosed, array_left, inline_left}
 use Rattle.edit_rewrite.proofs.SlotLaws.{gap_rest, slot_rest}
-use Rattle.edit_rewrite.proofs.StatementSpots.{Starts, part_start, blank_small}
+use Rattle.edit_rewrite.proofs.StatementSuffixes.{Starts, part_start, blank_small}
 
 -- ---- what begins with ASCII
 
@@ -112,9 +112,9 @@ slots_text below i (last_slot s c) rest h u = go (is_item_removed below i s)
 slots_text below i (more_slots s c d ss) rest h u =
     go (is_item_removed below i s) (slots_left below (suc i) ss rest) (slots_text below (suc i) ss rest h.3 u)
   where
-    kept : (b : Bool) (x : List ℕ) → IsUtf8 x → IsUtf8 (if b then comma ∷ gap d x else x)
-    kept true x w = put_one comma (gap d x) (omega arith) (put_gap d x h.2 w)
-    kept false x w = w
+    comma_first : (b : Bool) (x : List ℕ) → IsUtf8 x → IsUtf8 (if b then comma ∷ gap d x else x)
+    comma_first true x w = put_one comma (gap d x) (omega arith) (put_gap d x h.2 w)
+    comma_first false x w = w
 
     gone : (b : Bool) (x : List ℕ) → IsUtf8 x
         → let l = if b then left_with_comma (without_blanks (gap d x)) else left_without_comma (gap c x) in IsUtf8 l.rest
@@ -126,7 +126,7 @@ slots_text below i (more_slots s c d ss) rest h u =
         else left_with_comma (slot s (gap c (behind_comma (gap d) l))) in
         IsUtf8 m.rest
     go true l w = gone l.comma_stays l.rest w
-    go false l w = put_slot s _ h.0 (put_gap c _ h.1 (kept l.comma_stays l.rest w))
+    go false l w = put_slot s _ h.0 (put_gap c _ h.1 (comma_first l.comma_stays l.rest w))
 
 enclosed_text : (t : Bool) (below : Place) (g : List Between) (ss : Slots) (text : List ℕ)
     → IsEnclosed t g ss text → IsUtf8 text → IsUtf8 (enclosed_left t below g ss)

@@ -11,22 +11,22 @@ pub mod WayCounts
 pub mod TakenStatements
 pub mod StatedLines
 -- A member inserted on a line of its own
-pub mod SpotTexts
-pub mod StatementSpots
+pub mod SuffixTexts
+pub mod StatementSuffixes
 pub mod InsertedLines
 pub mod InsertedTexts
 pub mod EntryChoices
 -- An entry replaced
 pub mod EntryParts
 pub mod EntryCuts
-pub mod ToldPairs
+pub mod PairOffsetLemmas
 pub mod NamedMembers
 pub mod LineEntries
 pub mod InnerPairs
 pub mod ClosestPairs
 pub mod ClosestTables
 pub mod ValueAssertions
-pub mod ValueSpots
+pub mod ValueSuffixes
 pub mod InlineRows
 pub mod InnerTurns
 pub mod InnerRows
@@ -41,4 +41,4 @@ pub mod LeftLines
 pub mod LeftTexts
 pub mod AroundValues
 -- Worked examples
-pub mod InlineSpots
+pub mod InlineSuffixes

@@ -14,7 +14,7 @@ use Rattle.edit_rewrite.specs.declared.locate.Entry.{Entry}
 use Rattle.edit_tree.specs.Assertions.{Place}
 use Rattle.edit_tree.specs.EditBytes.{first_of, first_result, unresolved, is_within, part_to, is_one_statement}
 use Rattle.edit_rewrite.specs.Entries.{AreParts, key_target, entry_of}
-use Rattle.edit_rewrite.specs.EntrySpots.{within_entry, key_end, last_end, IsAround, HasPairOffsets}
+use Rattle.edit_rewrite.specs.PairOffsets.{within_entry, key_end, last_end, IsAround, HasPairOffsets}
 use Rattle.edit_tree.specs.Statements.{PlacedStatement, placed_statements, Named, dotted_parts, parts, front_parts, behind_part, PlacedPair, placed_pair, paired_statement, line_pairs}
 use Rattle.edit_tree.proofs.Choices.{Alike, first_taken, first_left, first_chosen}
 use Rattle.edit_rewrite.proofs.EntryChoices.{no_entry}
@@ -22,7 +22,7 @@ use Rattle.edit_rewrite.proofs.EntryCuts.{StatedStands}
 use Rattle.edit_rewrite.proofs.EntryParts.{last_part, key_ends, within_part, within_none}
 use Rattle.edit_rewrite.proofs.KeyWays.{key_are, pair_led}
 use Rattle.edit_tree.proofs.LonePairs.{stands_out}
-use Rattle.edit_rewrite.proofs.ToldPairs.{nothing_told, one_told}
+use Rattle.edit_rewrite.proofs.PairOffsetLemmas.{no_offsets, pair_around}
 use Rattle.edit_tree.proofs.TablePairs.{among_flat}
 use Rattle.edit_rewrite.proofs.StatedLines.{value_first}
 
@@ -112,25 +112,25 @@ lengths None l = refl
 lengths (Some x) l = refl
 
 -- a pair that names the place or one below it, where one statement names the place
-pub line_around : (bytes : List ℕ) (form : Text) (place : Place) (s : PlacedStatement) (marks : List SyntaxToken) (e : Entry)
+pub line_around : (bytes : List ℕ) (form : Text) (place : Place) (s : PlacedStatement) (tokens : List SyntaxToken) (e : Entry)
     → is_one_statement form place ≡ true → IsUtf8 bytes → StatedStands bytes s
     → Among s (placed_statements form)
-    → e ≡ entry_of place s → within_entry e ≡ Some e → marks ≡ tokens_of_statement s.statement s.behind
-    → IsAround place (line_pairs form) (unwrap_or e.front (key_end 0 marks), last_end 0 marks)
-line_around bytes form place s marks e one u stands among is kind marked =
+    → e ≡ entry_of place s → within_entry e ≡ Some e → tokens ≡ tokens_of_statement s.statement s.behind
+    → IsAround place (line_pairs form) (unwrap_or e.front (key_end 0 tokens), last_end 0 tokens)
+line_around bytes form place s tokens e one u stands among is kind tokens_are =
     let tests = (chosen _ e e kind).0 in
     let both = and_parts (not e.is_header) e.is_within tests in
-    go s.statement stands among is marked both.0 both.1
+    go s.statement stands among is tokens_are both.0 both.1
   where
     go : (st : Statement) → StatedStands bytes (record s { statement = st })
         → Among (record s { statement = st }) (placed_statements form) → e ≡ entry_of place (record s { statement = st })
-        → marks ≡ tokens_of_statement st s.behind → not e.is_header ≡ true → e.is_within ≡ true
-        → IsAround place (line_pairs form) (unwrap_or e.front (key_end 0 marks), last_end 0 marks)
-    go (header a k b) stands among is marked paired_one reach =
+        → tokens ≡ tokens_of_statement st s.behind → not e.is_header ≡ true → e.is_within ≡ true
+        → IsAround place (line_pairs form) (unwrap_or e.front (key_end 0 tokens), last_end 0 tokens)
+    go (header a k b) stands among is tokens_are paired_one reach =
         absurd (true≢false (sym paired_one ∙ ap (λ (x : Entry). not x.is_header) is))
-    go (element_header a k b) stands among is marked paired_one reach =
+    go (element_header a k b) stands among is tokens_are paired_one reach =
         absurd (true≢false (sym paired_one ∙ ap (λ (x : Entry). not x.is_header) is))
-    go (pair k a b v) stands among is marked paired_one reach =
+    go (pair k a b v) stands among is tokens_are paired_one reach =
         let here : PlacedStatement = record s { statement = pair k a b v } in
         let rest = a ++ (equals ∷ (b ++ value v s.behind)) in
         let n : Named = (name k.first, dotted k.others rest) in
@@ -142,16 +142,16 @@ line_around bytes form place s marks e one u stands among is kind marked =
         let within : is_within place (key_target unresolved s.prefix (n ∷ ns)) ≡ true =
         ap (is_within place) (pair_led s.prefix k rest) ∙ sym (ap (λ (x : Entry). x.is_within) is) ∙ reach in
         let out = stands_out form place one here among in
-        let last : key_end 0 marks ≡ length (last_part n ns) =
-        ap (key_end 0) marked ∙ key_ends bytes 0 n ns (tokens_of_key k rest ++ others) are in
-        one_told place (placed_pair s.prefix k a b v s.behind) (line_pairs form)
+        let last : key_end 0 tokens ≡ length (last_part n ns) =
+        ap (key_end 0) tokens_are ∙ key_ends bytes 0 n ns (tokens_of_key k rest ++ others) are in
+        pair_around place (placed_pair s.prefix k a b v s.behind) (line_pairs form)
         (unwrap_or fronts (last_part n ns))
-        (unwrap_or e.front (key_end 0 marks), last_end 0 marks)
+        (unwrap_or e.front (key_end 0 tokens), last_end 0 tokens)
         (flat_among paired_statement here (placed_pair s.prefix k a b v s.behind) (placed_statements form) among (inl refl))
         (within_part place s.prefix n ns out within)
         (ap₂ (λ (o : Option ℕ) (l : ℕ). unwrap_or o l) (ap (λ (x : Entry). x.front) is) last
         ∙ lengths fronts (last_part n ns))
-        (ap (last_end 0) marked ∙ last_behind 0 (tokens_of_key k rest) v s.behind)
+        (ap (last_end 0) tokens_are ∙ last_behind 0 (tokens_of_key k rest) v s.behind)
 
 -- ---- the first one
 
@@ -174,7 +174,7 @@ none_each {A} {B} f x (y ∷ ys) e m = go (f y) refl e m (λ h n. none_each f x 
 pub line_none : (form : Text) (place : Place) (es : List Entry)
     → es ≡ map (entry_of place) (placed_statements form)
     → first_result within_entry es ≡ None → HasPairOffsets place (line_pairs form) None
-line_none form place es all none = nothing_told place (line_pairs form) each
+line_none form place es all none = no_offsets place (line_pairs form) each
   where
     left_out : (b : Bool) (e : Entry) → cond b (Some e) None ≡ None → b ≡ false
     left_out true e h = absurd cc
@@ -223,13 +223,13 @@ line_some form place es e all some =
 pub around_left : (place : Place) (ps qs : List PlacedPair) (r : ℕ × ℕ) → IsAround place ps r
     → IsAround place (ps ++ qs) r
 around_left place ps qs r h =
-    one_told place h.pair (ps ++ qs) h.part r (among_left h.pair ps qs (contained_among h.pair ps h.among))
+    pair_around place h.pair (ps ++ qs) h.part r (among_left h.pair ps qs (contained_among h.pair ps h.among))
     h.named
     h.from h.to
 
 pub around_right : (place : Place) (ps qs : List PlacedPair) (r : ℕ × ℕ) → IsAround place qs r
     → IsAround place (ps ++ qs) r
 around_right place ps qs r h =
-    one_told place h.pair (ps ++ qs) h.part r (among_right h.pair ps qs (contained_among h.pair qs h.among))
+    pair_around place h.pair (ps ++ qs) h.part r (among_right h.pair ps qs (contained_among h.pair qs h.among))
     h.named
     h.from h.to

@@ -13,14 +13,14 @@ use Rattle.edit_syntax.proofs.MembersReadAgain.{pair_longer, value_longer}
 use Rattle.edit_syntax.proofs.NumberReadAgain.{is_start, integer_start, float_start}
 use Rattle.edit_tree.specs.Assertions.{Place}
 use Rattle.edit_tree.specs.EditBytes.{part_to}
-use Rattle.edit_rewrite.specs.EntrySpots.{StandsIn, HasPairOffsets}
+use Rattle.edit_rewrite.specs.PairOffsets.{StandsIn, HasPairOffsets}
 use Rattle.edit_tree.specs.Slots.{of_pair}
 use Rattle.edit_tree.specs.SlotTexts.{Ends, StandsAt}
 use Rattle.edit_tree.specs.Statements.{placed_pair, paired_members, paired_value}
 use Rattle.edit_tree.specs.Written.{PlacedValue}
 use Rattle.edit_tree.proofs.Ends.{ends_one, ends_pair, ends_gap, ends_value}
 use Rattle.edit_rewrite.proofs.SlotLaws.{slot_begins}
-use Rattle.edit_rewrite.proofs.ToldPairs.{nothing_told, one_told, more_told}
+use Rattle.edit_rewrite.proofs.PairOffsetLemmas.{no_offsets, pair_around, more_offsets}
 
 -- ---- inline tables by their first byte
 
@@ -56,7 +56,7 @@ pub record MembersLeft (text : List ℕ) (place : Place) (w : PlacedValue) (i si
     pub spelled : rest ≡ members ms (right_brace ∷ w.after)
     pub within : Ends text rest
     pub short : length rest + i ≤ size
-    pub told : (o : Option (ℕ × ℕ))
+    pub offsets : (o : Option (ℕ × ℕ))
         → HasPairOffsets place (paired_members w.place ms (right_brace ∷ w.after)) o
         → HasPairOffsets place (paired_value w) o
 
@@ -115,25 +115,25 @@ members_start text s place w rest stands e begun is = go w.value stands e
           spelled = here;
           within = rw here (ends_gap text g inner (ends_one text left_brace (gap g inner) st.ends));
           short = omega (arith, ap length here, ap length e, gap_longer g inner);
-          told = λ o h. h;
+          offsets = λ o h. h;
         }
 
 -- what is no inline table has no members
-pub no_members_told : (text s : List ℕ) (place : Place) (w : PlacedValue) → StandsIn text w
+pub no_member_offsets : (text s : List ℕ) (place : Place) (w : PlacedValue) → StandsIn text w
     → s ≡ value w.value w.after
     → eqb (first s) left_brace ≡ false → HasPairOffsets place (paired_value w) None
-no_members_told text s place w stands e shut = go w.value e
+no_member_offsets text s place w stands e shut = go w.value e
   where
     go : (v : Value) → s ≡ value v w.after → HasPairOffsets place (paired_value (record w { value = v })) None
-    go (basic ps) e = nothing_told place [] (λ p m. absurd m)
-    go (literal t) e = nothing_told place [] (λ p m. absurd m)
-    go (multi_basic ps) e = nothing_told place [] (λ p m. absurd m)
-    go (multi_literal ps) e = nothing_told place [] (λ p m. absurd m)
-    go (boolean b) e = nothing_told place [] (λ p m. absurd m)
-    go (integer n) e = nothing_told place [] (λ p m. absurd m)
-    go (float f) e = nothing_told place [] (λ p m. absurd m)
-    go (datetime d) e = nothing_told place [] (λ p m. absurd m)
-    go (array g es) e = nothing_told place [] (λ p m. absurd m)
+    go (basic ps) e = no_offsets place [] (λ p m. absurd m)
+    go (literal t) e = no_offsets place [] (λ p m. absurd m)
+    go (multi_basic ps) e = no_offsets place [] (λ p m. absurd m)
+    go (multi_literal ps) e = no_offsets place [] (λ p m. absurd m)
+    go (boolean b) e = no_offsets place [] (λ p m. absurd m)
+    go (integer n) e = no_offsets place [] (λ p m. absurd m)
+    go (float f) e = no_offsets place [] (λ p m. absurd m)
+    go (datetime d) e = no_offsets place [] (λ p m. absurd m)
+    go (array g es) e = no_offsets place [] (λ p m. absurd m)
     go (inline g ms) e =
         absurd (true≢false (sym (ap (λ (x : List ℕ). eqb (first x) left_brace) e) ∙ shut))
 
@@ -149,17 +149,17 @@ unshut s t e there none =
 pub members_closed : (text : List ℕ) (place : Place) (w : PlacedValue) (i size : ℕ) (rest : List ℕ)
     → MembersLeft text place w i size rest → eqb (first rest) right_brace ≡ true
     → HasPairOffsets place (paired_value w) None
-members_closed text place w i size rest at shut = go at.ms at.valid at.shallow at.spelled at.told
+members_closed text place w i size rest at shut = go at.ms at.valid at.shallow at.spelled at.offsets
   where
     go : (ms : Members) → AreMembers ms → members_depth ms ≤ 80 → rest ≡ members ms (right_brace ∷ w.after)
         → ((o : Option (ℕ × ℕ)) → HasPairOffsets place (paired_members w.place ms (right_brace ∷ w.after)) o
         → HasPairOffsets place (paired_value w) o) → HasPairOffsets place (paired_value w) None
-    go no_members h d e told = told None (nothing_told place [] (λ p m. absurd m))
-    go (last_member k a b v c) h d e told =
+    go no_members h d e offsets = offsets None (no_offsets place [] (λ p m. absurd m))
+    go (last_member k a b v c) h d e offsets =
         unshut rest _ e shut
         (slot_begins true (of_pair k a b v) (gap c (right_brace ∷ w.after))
         (refl, h.0, h.1, h.2, h.3, d)).unshut
-    go (member k a b v c f ms) h d e told =
+    go (member k a b v c f ms) h d e offsets =
         unshut rest _ e shut
         (slot_begins true (of_pair k a b v) (gap c (comma ∷ gap f (members ms (right_brace ∷ w.after))))
         (refl, h.0, h.1, h.2, h.3, omega arith)).unshut
@@ -195,14 +195,14 @@ pub record MemberFront (text : List ℕ) (place : Place) (w : PlacedValue) (i si
 pub members_front : (text : List ℕ) (place : Place) (w : PlacedValue) (i size : ℕ) (rest : List ℕ)
     → MembersLeft text place w i size rest → eqb (first rest) right_brace ≡ false
     → MemberFront text place w i size rest
-members_front text place w i size rest at begun = go at.ms at.valid at.shallow at.spelled at.told
+members_front text place w i size rest at begun = go at.ms at.valid at.shallow at.spelled at.offsets
   where
     go : (ms : Members) → AreMembers ms → members_depth ms ≤ 80 → rest ≡ members ms (right_brace ∷ w.after)
         → ((o : Option (ℕ × ℕ)) → HasPairOffsets place (paired_members w.place ms (right_brace ∷ w.after)) o
         → HasPairOffsets place (paired_value w) o) → MemberFront text place w i size rest
-    go no_members h d e told =
+    go no_members h d e offsets =
         absurd (true≢false (sym (ap (λ (x : List ℕ). eqb (first x) right_brace) e) ∙ begun))
-    go (last_member k a b v c) h d e told =
+    go (last_member k a b v c) h d e offsets =
         let behind = right_brace ∷ w.after in
         let p = placed_pair w.place k a b v (gap c behind) in
         record {
@@ -220,13 +220,13 @@ members_front text place w i size rest at begun = go at.ms at.valid at.shallow a
             spelled = e;
           };
           found =
-              λ part r named from to. told (Some r) (one_told place p (p ∷ []) part r (inl refl) named from
+              λ part r named from to. offsets (Some r) (pair_around place p (p ∷ []) part r (inl refl) named from
               to);
           last =
-              λ none _. told None (more_told place p [] None none (nothing_told place [] (λ q m. absurd m)));
+              λ none _. offsets None (more_offsets place p [] None none (no_offsets place [] (λ q m. absurd m)));
           next = λ none k. absurd (true≢false (sym k));
         }
-    go (member k a b v c f ms) h d e told =
+    go (member k a b v c f ms) h d e offsets =
         let close = right_brace ∷ w.after in
         let inner = members ms close in
         let behind = comma ∷ gap f inner in
@@ -249,7 +249,7 @@ members_front text place w i size rest at begun = go at.ms at.valid at.shallow a
             spelled = e;
           };
           found = λ part r named from to.
-              told (Some r) (one_told place p (p ∷ others) part r (inl refl) named from to);
+              offsets (Some r) (pair_around place p (p ∷ others) part r (inl refl) named from to);
           last = λ none k. absurd (true≢false k);
           next = λ none _ next is.
               let here : next ≡ inner = is ∙ past_gap_again f inner h.5 (closes ms w.after h.6 deep) in
@@ -271,6 +271,6 @@ members_front text place w i size rest at begun = go at.ms at.valid at.shallow a
                       gap_longer c behind,
                       gap_longer f inner,
                     );
-                told = λ o t. told o (more_told place p others o none t);
+                offsets = λ o t. offsets o (more_offsets place p others o none t);
               };
         }

@@ -13,7 +13,7 @@ use Rattle.edit_document.specs.Splices.{Range, ranges_of}
 use Rattle.edit_tree.specs.Tree.{is_value_at}
 use Rattle.edit_tree.specs.Written.{PlacedValue, values, start_of, end_of, IsWrittenAt}
 use Rattle.edit_document.proofs.LocatedEdits.{first_of_distinct}
-use Rattle.edit_tree.proofs.ReplacedStrings.{told_value, one_apart}
+use Rattle.edit_tree.proofs.ReplacedStrings.{value_written, one_apart}
 use Rattle.edit_document.proofs.ReplacementLaws.{one_range}
 use Rattle.edit_tree.proofs.SamePlace.{same_place_self, same_place_is}
 use Rattle.edit_document.proofs.SortedRanges.{ranges_are}
@@ -89,8 +89,8 @@ pub found_edit : (form : Text) (p : Place) (start end : ℕ) (old : List ℕ) �
     → is_value_at form p ≡ true → IsWrittenAt form p start end
     → (c : PlacedValue × List ℕ) × (edited (one p) form ≡ c ∷ []) × (start ≡ start_of (length (text form)) c.0) ×
     (end ≡ end_of (length (text form)) c.0)
-found_edit form p start end old document told range =
-    let apart = one_apart form p [] (told_value form p document.no_clash told) in
+found_edit form p start end old document is_value range =
+    let apart = one_apart form p [] (value_written form p document.no_clash is_value) in
     let r : Range = (start, end, []) in
     one_edited (length (text form)) r (edited (one p) form)
     (ranges_are form (one p) (r ∷ []) document.no_clash document.grammar.well_formed
@@ -166,11 +166,11 @@ drop_front whole front back e = ap₂ (λ n (l : List ℕ). drop n l) (cut_front
 
 pub set_at : (form : Text) (p : Place) (v : NewValue) (start end : ℕ) (old : List ℕ) → IsDocument old form
     → is_value_at form p ≡ true → IsWrittenAt form p start end → SetAt p v form start end
-set_at form p v start end old document told range =
+set_at form p v start end old document is_value range =
     let u = new_value v in
-    let f = found_edit form p start end old document told range in
+    let f = found_edit form p start end old document is_value range in
     let c = f.0 in
-    let apart = one_apart form p [] (told_value form p document.no_clash told) in
+    let apart = one_apart form p [] (value_written form p document.no_clash is_value) in
     let swap = one_swap (turned u) (edited (one p) form) c (text form) (text (form_set p v form))
     (replaced_swaps (turned u) (one p) form (apart_none (one p) form apart)) f.1 in
     let t = swap.before in

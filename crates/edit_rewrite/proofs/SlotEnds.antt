@@ -51,10 +51,10 @@ left_total true x y z tr cs commas gaps e f = ap (λ (t : List ℕ). commas ++ t
     sym (append_assoc commas tr z)
 left_total false x y z tr cs commas gaps e f = ap (λ (t : List ℕ). gaps ++ t) f ∙ sym (append_assoc gaps cs z)
 
-pub kept_rest : (b : Bool) (d : List Between) (r : List ℕ) → (if b then comma ∷ gap d r else r)
+pub comma_rest : (b : Bool) (d : List Between) (r : List ℕ) → (if b then comma ∷ gap d r else r)
     ≡ (if b then comma ∷ gap d [] else []) ++ r
-kept_rest true d r = ap (λ (t : List ℕ). comma ∷ t) (gap_rest d r)
-kept_rest false d r = refl
+comma_rest true d r = ap (λ (t : List ℕ). comma ∷ t) (gap_rest d r)
+comma_rest false d r = refl
 
 pub closing_ends : (t : Bool) → ends_item (closing t) ≡ true
 closing_ends true = refl

@@ -114,8 +114,8 @@ inline_left place below g ms = rw (members_as place below 0 ms (right_brace ∷ 
 -- ---- names
 
 -- two texts are the same by std's test where they are by the place's
-pub word_is : (a b : List ℕ) → bytes_eq a b ≡ same_bytes b a
-word_is a b = go (bytes_eq a b) refl (same_bytes b a) refl
+pub same_bytes_swapped : (a b : List ℕ) → bytes_eq a b ≡ same_bytes b a
+same_bytes_swapped a b = go (bytes_eq a b) refl (same_bytes b a) refl
   where
     go : (r : Bool) → bytes_eq a b ≡ r → (q : Bool) → same_bytes b a ≡ q → r ≡ q
     go true e true f = refl

@@ -79,15 +79,15 @@ tail_slice [] = refl
 tail_slice (x ∷ xs) = let k : length (x ∷ xs) - 1 ≡ length xs = omega arith in rw k (take-length xs)
 
 -- the first of the marks says the first of the names
-pub record FirstSaid (text : List ℕ) (marks : List SyntaxToken) (ns : List (List ℕ)) : Type 0 where
+pub record FirstSaid (text : List ℕ) (tokens : List SyntaxToken) (ns : List (List ℕ)) : Type 0 where
   pub name : List ℕ
   pub others : List (List ℕ)
   pub is : ns ≡ name ∷ others
-  pub said : (d : SyntaxToken) → IsDecodedAt text (get_or marks 0 d) name
-  pub others_said : AreDecodedAs text (take (length marks - 1) (drop 1 marks)) others
+  pub said : (d : SyntaxToken) → IsDecodedAt text (get_or tokens 0 d) name
+  pub others_said : AreDecodedAs text (take (length tokens - 1) (drop 1 tokens)) others
 
-pub first_said : (text : List ℕ) (marks : List SyntaxToken) (ns : List (List ℕ)) → 1 ≤ length marks
-    → AreDecodedAs text marks ns → FirstSaid text marks ns
+pub first_said : (text : List ℕ) (tokens : List SyntaxToken) (ns : List (List ℕ)) → 1 ≤ length tokens
+    → AreDecodedAs text tokens ns → FirstSaid text tokens ns
 first_said text [] ns le h = absurd (omega arith)
 first_said text (m ∷ ms) [] le h = absurd h
 first_said text (m ∷ ms) (n ∷ ns) le h =

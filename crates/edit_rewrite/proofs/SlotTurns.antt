@@ -13,7 +13,7 @@ use Rattle.edit_rewrite.specs.Remainders.{before_end, SkipsItem, AppendsItem}
 use Rattle.edit_rewrite.specs.declared.inside.Remainder.{Remainder}
 use Rattle.edit_tree.proofs.Ends.{ends_past, ends_one, ends_gap}
 use Rattle.edit_rewrite.proofs.SlotLaws.{gap_rest, slot_rest, before_is, slots_gapless, trimmed, trimmed_gap, past_blanks_is, left_begins}
-use Rattle.edit_rewrite.proofs.SlotEnds.{AtSlots, grouped, last_total, left_total, kept_rest, closing_ends, closing_no_comma, slot_longer, blankless, closing_self}
+use Rattle.edit_rewrite.proofs.SlotEnds.{AtSlots, grouped, last_total, left_total, comma_rest, closing_ends, closing_no_comma, slot_longer, blankless, closing_self}
 
 -- ---- one element or member
 
@@ -31,7 +31,7 @@ pub record Front (t : Bool) (text : List ℕ) (below : Place) (i : ℕ)
       → next ≡ past_gap (drop 1 behind)
       → AtSlots t text below (suc i) next firm (commas ++ before_end (past_blanks (drop 1 behind)) next)
       (gaps ++ before_end (gap gap_behind behind) behind) target
-  pub kept : eqb (first behind) comma ≡ true → is_item_removed below i it ≡ false → (next : List ℕ)
+  pub remains : eqb (first behind) comma ≡ true → is_item_removed below i it ≡ false → (next : List ℕ)
       → next ≡ past_gap (drop 1 behind)
       → AtSlots t text below (suc i) next ((firm ++ commas) ++ before_end rest behind)
       (before_end behind next) [] target
@@ -51,7 +51,7 @@ last_front t text below i rest firm commas gaps target s c hs hc e ends total =
       stands = record { valid = hs; between = hc; ends = closing_ends t; within = ends; spelled = e };
       last = λ _. rw e (total ∙ last_total (is_item_removed below i s) firm commas gaps end (slot s end));
       left = λ k. absurd (true≢false (sym k ∙ closing_no_comma t));
-      kept = λ k. absurd (true≢false (sym k ∙ closing_no_comma t));
+      remains = λ k. absurd (true≢false (sym k ∙ closing_no_comma t));
     }
 
 more_front : (t : Bool) (text : List ℕ) (below : Place) (i : ℕ) (rest firm commas gaps target : List ℕ)
@@ -68,7 +68,7 @@ more_front t text below i rest firm commas gaps target s c d ss h e ends short t
       stands = record { valid = h.0; between = h.1; ends = refl; within = ends; spelled = e };
       last = λ k. absurd (true≢false k);
       left = left;
-      kept = kept;
+      remains = remains;
     }
   where
     inner : List ℕ
@@ -120,11 +120,11 @@ more_front t text below i rest firm commas gaps target s c d ss h e ends short t
           total = rw (comma_part, gap_part) ((rw g at total) ∙ ap (λ (x : List ℕ). firm ++ x) ways);
         })
 
-    kept : eqb (first behind) comma ≡ true → is_item_removed below i s ≡ false → (next : List ℕ)
+    remains : eqb (first behind) comma ≡ true → is_item_removed below i s ≡ false → (next : List ℕ)
         → next ≡ past_gap (drop 1 behind)
         → AtSlots t text below (suc i) next ((firm ++ commas) ++ before_end rest behind)
         (before_end behind next) [] target
-    kept k g next n =
+    remains k g next n =
         let b = m.comma_stays in
         let z = if b then comma ∷ gap d m.rest else m.rest in
         let item_part : before_end rest behind ≡ slot s [] ++ gap c [] =
@@ -143,7 +143,7 @@ more_front t text below i rest firm commas gaps target s c d ss h e ends short t
               ap (λ (x : List ℕ). firm ++ (commas ++ x)) spread
               ∙ grouped firm commas (slot s []) (gap c []) z
               ∙ ap (λ (x : List ℕ). ((firm ++ commas) ++ (slot s [] ++ gap c [])) ++ x)
-              (kept_rest b d m.rest));
+              (comma_rest b d m.rest));
         })
 
 pub slots_front : (t : Bool) (text : List ℕ) (below : Place) (i : ℕ) (rest firm commas gaps target : List ℕ)
@@ -215,7 +215,7 @@ turned t text below i rest target old new f false after stop next is behind at_s
     at_with t text below (suc i) (i + 1) next
     ((old.firm.items ++ old.with_comma.items) ++ before_end rest f.behind) new.firm.items
     (before_end f.behind next) new.with_comma.items [] new.without_comma.items target
-    (f.kept comma_there (sym is) next comes) (omega arith)
+    (f.remains comma_there (sym is) next comes) (omega arith)
     (w.firm ∙ ap (λ (x : List ℕ). (old.firm.items ++ old.with_comma.items) ++ before_end rest x) at_stop)
     (w.with_comma ∙ ap (λ (x : List ℕ). before_end x next) at_stop)
     w.without_comma

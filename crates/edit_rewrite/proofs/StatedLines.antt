@@ -67,20 +67,20 @@ value_head k a b (datetime d) rest = (refl, refl)
 value_head k a b (array g es) rest = (refl, refl)
 value_head k a b (inline g ms) rest = (refl, refl)
 
-pub defined_by : (bytes : List ℕ) (s : PlacedStatement) (marks : List SyntaxToken) (spots : StatementOffsets)
+pub defined_by : (bytes : List ℕ) (s : PlacedStatement) (tokens : List SyntaxToken) (offsets : StatementOffsets)
     → IsStatement s.statement
     → IsUtf8 bytes → Ends bytes (statement s.statement s.behind)
-    → marks ≡ tokens_of_statement s.statement s.behind
-    → spots.line ≡ length s.line → spots.key ≡ first_from marks → spots.after ≡ length s.after
-    → spots.next ≡ length s.next → IsTokenized bytes marks s spots
-defined_by bytes s marks spots h u ends is line from after next = go s.statement h ends is
+    → tokens ≡ tokens_of_statement s.statement s.behind
+    → offsets.line ≡ length s.line → offsets.key ≡ first_from tokens → offsets.after ≡ length s.after
+    → offsets.next ≡ length s.next → IsTokenized bytes tokens s offsets
+defined_by bytes s tokens offsets h u ends is line from after next = go s.statement h ends is
   where
     go : (st : Statement) → IsStatement st → Ends bytes (statement st s.behind)
-        → marks ≡ tokens_of_statement st s.behind → IsTokenized bytes marks (record s { statement = st }) spots
+        → tokens ≡ tokens_of_statement st s.behind → IsTokenized bytes tokens (record s { statement = st }) offsets
     go (pair k a b v) h ends is =
         let rest = a ++ (equals ∷ (b ++ value v s.behind)) in
         record {
-          parts_marked = subst (AreParts bytes (parts k rest)) (sym is)
+          are_parts = subst (AreParts bytes (parts k rest)) (sym is)
               (key_are bytes k rest (tokens_of_value v s.behind) h.0 u ends (value_first v s.behind));
           head = subst (HeadIs (pair k a b v))
               (sym (ap kind_after_key is ∙ head_key k rest (tokens_of_value v s.behind))) (value_head k a b v s.behind);
@@ -95,7 +95,7 @@ defined_by bytes s marks spots h u ends is line from after next = go s.statement
         let key_ends : Ends bytes (strings.key k rest) =
         ends_past bytes a (strings.key k rest) (ends_one bytes left_bracket (a ++ strings.key k rest) ends) in
         record {
-          parts_marked = subst (AreParts bytes (parts k rest)) (sym is)
+          are_parts = subst (AreParts bytes (parts k rest)) (sym is)
               (key_are bytes k rest others h.1 u key_ends refl);
           head = subst (HeadIs (header a k b)) (sym (ap kind_after_key is ∙ head_key k rest others)) (refl, refl);
           line = line;
@@ -111,7 +111,7 @@ defined_by bytes s marks spots h u ends is line from after next = go s.statement
         (ends_one bytes left_bracket (a ++ strings.key k rest)
         (ends_one bytes left_bracket (left_bracket ∷ (a ++ strings.key k rest)) ends)) in
         record {
-          parts_marked = subst (AreParts bytes (parts k rest)) (sym is)
+          are_parts = subst (AreParts bytes (parts k rest)) (sym is)
               (key_are bytes k rest others h.1 u key_ends refl);
           head = subst (HeadIs (element_header a k b)) (sym (ap kind_after_key is ∙ head_key k rest others))
               (refl, refl);
@@ -142,27 +142,27 @@ no_end : (e : LineEnd) (rest : List ℕ) → length (line_end e rest) ≡ 0 → 
 no_end lf rest h = omega arith
 no_end crlf rest h = omega arith
 
-some_marks : (s : Statement) (rest : List ℕ) → length (tokens_of_statement s rest) ≡ 0 → ⊥
-some_marks (pair k a b v) rest h = omega arith
-some_marks (header a k b) rest h = omega arith
-some_marks (element_header a k b) rest h = omega arith
+some_tokens : (s : Statement) (rest : List ℕ) → length (tokens_of_statement s rest) ≡ 0 → ⊥
+some_tokens (pair k a b v) rest h = omega arith
+some_tokens (header a k b) rest h = omega arith
+some_tokens (element_header a k b) rest h = omega arith
 
 module _ (bytes : List ℕ) (u : IsUtf8 bytes) (target : Place) (form : Text) (standing : SearchState)
-    (found : List Entry) (rest after next : List ℕ) (marks : List SyntaxToken)
+    (found : List Entry) (rest after next : List ℕ) (tokens : List SyntaxToken)
     (d : AtLine bytes target form standing found rest)
-    (is_after : after ≡ after_first d.left) (is_marks : marks ≡ tokens_of_first_line d.left) where
+    (is_after : after ≡ after_first d.left) (is_tokens : tokens ≡ tokens_of_first_line d.left) where
   abbrev AllAre : Lines → Type 0
   AllAre ls = map (entry_of target) (placed_statements form) ≡ found ++ map (entry_of target)
       (stated_in d.earlier d.prefix ls)
 
   -- a line without a statement, and another behind it
-  pub turn_empty : length marks ≡ 0 → (length after ≡ 0 → ⊥)
+  pub turn_empty : length tokens ≡ 0 → (length after ≡ 0 → ⊥)
       → ((e : LineEnd) (r : List ℕ) → after ≡ line_end e r → next ≡ r)
       → AtLine bytes target form standing found next
-  turn_empty none more nexts = go d.left d.valid d.shallow d.ends d.all is_after is_marks
+  turn_empty none more nexts = go d.left d.valid d.shallow d.ends d.all is_after is_tokens
     where
       go : (ls : Lines) → AreLines ls → lines_depth ls ≤ 80 → Ends bytes (lines ls) → AllAre ls
-          → after ≡ after_first ls → marks ≡ tokens_of_first_line ls
+          → after ≡ after_first ls → tokens ≡ tokens_of_first_line ls
           → AtLine bytes target form standing found next
       go (one_line l) valid shallow ends all is_a is_m = absurd (more (ap length is_a))
       go (more_lines (empty_line a c) e ls) valid shallow ends all is_a is_m = record {
@@ -178,34 +178,34 @@ module _ (bytes : List ℕ) (u : IsUtf8 bytes) (target : Place) (form : Text) (s
         all = all;
       }
       go (more_lines (full_line a s b c) e ls) valid shallow ends all is_a is_m =
-          absurd (some_marks s (b ++ comment c (line_end e (lines ls))) (sym (ap length is_m) ∙ none))
+          absurd (some_tokens s (b ++ comment c (line_end e (lines ls))) (sym (ap length is_m) ∙ none))
 
   -- the last line, without a statement
-  pub end_empty : length marks ≡ 0 → length after ≡ 0 → found ≡ map (entry_of target) (placed_statements form)
-  end_empty none over = go d.left d.all is_after is_marks
+  pub end_empty : length tokens ≡ 0 → length after ≡ 0 → found ≡ map (entry_of target) (placed_statements form)
+  end_empty none over = go d.left d.all is_after is_tokens
     where
-      go : (ls : Lines) → AllAre ls → after ≡ after_first ls → marks ≡ tokens_of_first_line ls
+      go : (ls : Lines) → AllAre ls → after ≡ after_first ls → tokens ≡ tokens_of_first_line ls
           → found ≡ map (entry_of target) (placed_statements form)
       go (one_line (empty_line a c)) all is_a is_m = sym (all ∙ append-nil found)
       go (one_line (full_line a s b c)) all is_a is_m =
-          absurd (some_marks s (b ++ comment c []) (sym (ap length is_m) ∙ none))
+          absurd (some_tokens s (b ++ comment c []) (sym (ap length is_m) ∙ none))
       go (more_lines l e ls) all is_a is_m = absurd (no_end e (lines ls) (sym (ap length is_a) ∙ over))
 
-  module _ (standing2 : SearchState) (entry : Entry) (spots : StatementOffsets)
-      (takes : (s : PlacedStatement) → IsTokenized bytes marks s spots → IsSearchState target s.earlier s.prefix standing
+  module _ (standing2 : SearchState) (entry : Entry) (offsets : StatementOffsets)
+      (takes : (s : PlacedStatement) → IsTokenized bytes tokens s offsets → IsSearchState target s.earlier s.prefix standing
       → (entry ≡ entry_of target s)
       × IsSearchState target (s.earlier ++ of_statement s.earlier s.prefix s.statement)
       (prefix_after s.earlier s.prefix s.statement) standing2)
-      (line : spots.line ≡ length rest) (from : spots.key ≡ first_from marks)
-      (at_after : spots.after ≡ length after) (at_next : spots.next ≡ length next) where
+      (line : offsets.line ≡ length rest) (from : offsets.key ≡ first_from tokens)
+      (at_after : offsets.after ≡ length after) (at_next : offsets.next ≡ length next) where
     -- a line with a statement, and another behind it
-    pub turn_full : (length marks ≡ 0 → ⊥) → (length after ≡ 0 → ⊥)
+    pub turn_full : (length tokens ≡ 0 → ⊥) → (length after ≡ 0 → ⊥)
         → ((e : LineEnd) (r : List ℕ) → after ≡ line_end e r → next ≡ r)
         → AtLine bytes target form standing2 (found ++ entry ∷ []) next
-    turn_full some more nexts = go d.left d.same d.valid d.shallow d.ends d.all is_after is_marks
+    turn_full some more nexts = go d.left d.same d.valid d.shallow d.ends d.all is_after is_tokens
       where
         go : (ls : Lines) → rest ≡ lines ls → AreLines ls → lines_depth ls ≤ 80 → Ends bytes (lines ls)
-            → AllAre ls → after ≡ after_first ls → marks ≡ tokens_of_first_line ls
+            → AllAre ls → after ≡ after_first ls → tokens ≡ tokens_of_first_line ls
             → AtLine bytes target form standing2 (found ++ entry ∷ []) next
         go (one_line l) same valid shallow ends all is_a is_m = absurd (more (ap length is_a))
         go (more_lines (empty_line a c) e ls) same valid shallow ends all is_a is_m =
@@ -221,7 +221,7 @@ module _ (bytes : List ℕ) (u : IsUtf8 bytes) (target : Place) (form : Text) (s
               after = line_end e (lines ls);
               next = lines ls;
             } in
-            let taken = defined_by bytes st marks spots valid.0.1 u
+            let taken = defined_by bytes st tokens offsets valid.0.1 u
             (ends_past bytes a (statement s behind) ends) is_m (line ∙ ap length same) from
             (at_after ∙ ap length is_a) (at_next ∙ ap length (nexts e (lines ls) is_a)) in
             let p = takes st taken d.stands in
@@ -243,12 +243,12 @@ module _ (bytes : List ℕ) (u : IsUtf8 bytes) (target : Place) (form : Text) (s
             }
 
     -- the last line, with a statement
-    pub end_full : (length marks ≡ 0 → ⊥) → length after ≡ 0 → (after ≡ [] → next ≡ [])
+    pub end_full : (length tokens ≡ 0 → ⊥) → length after ≡ 0 → (after ≡ [] → next ≡ [])
         → found ++ entry ∷ [] ≡ map (entry_of target) (placed_statements form)
-    end_full some over last = go d.left d.same d.valid d.ends d.all is_after is_marks
+    end_full some over last = go d.left d.same d.valid d.ends d.all is_after is_tokens
       where
         go : (ls : Lines) → rest ≡ lines ls → AreLines ls → Ends bytes (lines ls) → AllAre ls
-            → after ≡ after_first ls → marks ≡ tokens_of_first_line ls
+            → after ≡ after_first ls → tokens ≡ tokens_of_first_line ls
             → found ++ entry ∷ [] ≡ map (entry_of target) (placed_statements form)
         go (one_line (empty_line a c)) same valid ends all is_a is_m = absurd (some (ap length is_m))
         go (one_line (full_line a s b c)) same valid ends all is_a is_m =
@@ -262,7 +262,7 @@ module _ (bytes : List ℕ) (u : IsUtf8 bytes) (target : Place) (form : Text) (s
               after = [];
               next = [];
             } in
-            let taken = defined_by bytes st marks spots valid.1 u
+            let taken = defined_by bytes st tokens offsets valid.1 u
             (ends_past bytes a (statement s behind) ends) is_m (line ∙ ap length same) from
             (at_after ∙ ap length is_a) (at_next ∙ ap length (last is_a)) in
             let p = takes st taken d.stands in

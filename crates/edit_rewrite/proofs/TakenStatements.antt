@@ -20,22 +20,22 @@ use Rattle.edit_rewrite.proofs.WayCounts.{same_counts, pair_counts, header_count
 
 -- an entry of these parts
 abbrev pub made : Bool → Bool → Bool → Option ℕ → StatementOffsets → Entry
-made own within head front spots =
+made own within head front offsets =
     record {
       is_own = own;
       is_within = within;
       is_header = head;
       front = front;
-      line = spots.line;
-      key = spots.key;
-      after = spots.after;
-      next = spots.next;
+      line = offsets.line;
+      key = offsets.key;
+      after = offsets.after;
+      next = offsets.next;
     }
 
-entry_is : (head : Bool) (o o2 w w2 : Bool) (f f2 : Option ℕ) (spots : StatementOffsets) (l k a n : ℕ)
+entry_is : (head : Bool) (o o2 w w2 : Bool) (f f2 : Option ℕ) (offsets : StatementOffsets) (l k a n : ℕ)
     → o ≡ o2 → w ≡ w2
-    → f ≡ f2 → spots.line ≡ l → spots.key ≡ k → spots.after ≡ a → spots.next ≡ n
-    → made o w head f spots
+    → f ≡ f2 → offsets.line ≡ l → offsets.key ≡ k → offsets.after ≡ a → offsets.next ≡ n
+    → made o w head f offsets
     ≡ record {
       is_own = o2;
       is_within = w2;
@@ -46,29 +46,29 @@ entry_is : (head : Bool) (o o2 w w2 : Bool) (f f2 : Option ℕ) (spots : Stateme
       after = a;
       next = n;
     }
-entry_is head o o2 w w2 f f2 spots l k a n eo ew ef el ek ea en = cc
+entry_is head o o2 w w2 f f2 offsets l k a n eo ew ef el ek ea en = cc
 
-module _ (bytes : List ℕ) (target : Place) (marks : List SyntaxToken) (s : PlacedStatement) (spots : StatementOffsets)
+module _ (bytes : List ℕ) (target : Place) (tokens : List SyntaxToken) (s : PlacedStatement) (offsets : StatementOffsets)
     (r : PathMatch × Option ℕ) where
   -- a pair
   pub pair_taken : (standing : SearchState) (own within : Bool) → is_pair s.statement ≡ true
-      → IsTokenized bytes marks s spots → IsSearchState target s.earlier s.prefix standing
-      → Promises bytes target [] marks standing.prefix r
+      → IsTokenized bytes tokens s offsets → IsSearchState target s.earlier s.prefix standing
+      → Promises bytes target [] tokens standing.prefix r
       → own ≡ is_at (length target) standing.prefix → within ≡ is_at_or_below (length target) r.0
-      → (made own within false r.1 spots ≡ entry_of target s)
+      → (made own within false r.1 offsets ≡ entry_of target s)
       × IsSearchState target (s.earlier ++ of_statement s.earlier s.prefix s.statement)
       (prefix_after s.earlier s.prefix s.statement) standing
   pair_taken standing own within kind taken stands promised is_own is_in = go s.statement kind taken
     where
-      go : (st : Statement) → is_pair st ≡ true → IsTokenized bytes marks (record s { statement = st }) spots
-          → (made own within false r.1 spots ≡ entry_of target (record s { statement = st }))
+      go : (st : Statement) → is_pair st ≡ true → IsTokenized bytes tokens (record s { statement = st }) offsets
+          → (made own within false r.1 offsets ≡ entry_of target (record s { statement = st }))
           × IsSearchState target (s.earlier ++ of_statement s.earlier s.prefix st)
           (prefix_after s.earlier s.prefix st) standing
       go (pair k a b v) e t =
           let s2 : PlacedStatement = record s { statement = pair k a b v } in
           let rest = (key_of s2).1 in
-          let g = promised s.prefix unresolved _ _ t.parts_marked (follows_itself target) stands.under in (
-            entry_is false _ _ _ _ _ _ spots _ _ _ _
+          let g = promised s.prefix unresolved _ _ t.are_parts (follows_itself target) stands.under in (
+            entry_is false _ _ _ _ _ _ offsets _ _ _ _
                 (is_own ∙ ap (is_at (length target)) stands.under ∙ sym (same_is target s.prefix))
                 (is_in ∙ ap (is_at_or_below (length target)) (g.0 ∙ ap (path_match target) (pair_led s.prefix k rest)) ∙
                 sym (within_is target (named s.prefix (names k))))
@@ -86,17 +86,17 @@ module _ (bytes : List ℕ) (target : Place) (marks : List SyntaxToken) (s : Pla
 
   -- a header
   pub header_taken : (standing : SearchState) (own within : Bool) → is_table_header s.statement ≡ true
-      → IsTokenized bytes marks s spots → IsSearchState target s.earlier s.prefix standing
-      → Promises bytes target standing.counts.items marks (On 0) r
+      → IsTokenized bytes tokens s offsets → IsSearchState target s.earlier s.prefix standing
+      → Promises bytes target standing.counts.items tokens (On 0) r
       → own ≡ is_at (length target) r.0 → within ≡ is_at_or_below (length target) r.0
-      → (made own within true r.1 spots ≡ entry_of target s)
+      → (made own within true r.1 offsets ≡ entry_of target s)
       × IsSearchState target (s.earlier ++ of_statement s.earlier s.prefix s.statement)
       (prefix_after s.earlier s.prefix s.statement) (record standing { prefix = r.0 })
   header_taken standing own within kind taken stands promised is_own is_in = go s.statement kind taken
     where
       go : (st : Statement) → is_table_header st ≡ true
-          → IsTokenized bytes marks (record s { statement = st }) spots
-          → (made own within true r.1 spots ≡ entry_of target (record s { statement = st }))
+          → IsTokenized bytes tokens (record s { statement = st }) offsets
+          → (made own within true r.1 offsets ≡ entry_of target (record s { statement = st }))
           × IsSearchState target (s.earlier ++ of_statement s.earlier s.prefix st)
           (prefix_after s.earlier s.prefix st) (record standing { prefix = r.0 })
       go (pair k a b v) e t = absurd cc
@@ -104,11 +104,11 @@ module _ (bytes : List ℕ) (target : Place) (marks : List SyntaxToken) (s : Pla
       go (header a k b) e t =
           let s2 : PlacedStatement = record s { statement = header a k b } in
           let rest = (key_of s2).1 in
-          let g = promised [] (last_element_or_self s.earlier) _ _ t.parts_marked
+          let g = promised [] (last_element_or_self s.earlier) _ _ t.are_parts
           (follows_counts target s.earlier standing.counts.items stands.counts) (way_root target) in
           let q = header_place s.earlier [] (names k) in
           let come : r.0 ≡ path_match target q = g.0 ∙ ap (path_match target) (header_led s.earlier k rest) in (
-            entry_is true _ _ _ _ _ _ spots _ _ _ _
+            entry_is true _ _ _ _ _ _ offsets _ _ _ _
                 (is_own ∙ ap (is_at (length target)) come ∙ sym (same_is target q))
                 (is_in ∙ ap (is_at_or_below (length target)) come ∙ sym (within_is target q))
                 g.1 t.line t.key t.after t.next,
@@ -146,26 +146,26 @@ counted_size (On d) counts = length-set counts d _
 counted_size Below counts = refl
 counted_size Off counts = refl
 
-module _ (bytes : List ℕ) (target : Place) (marks : List SyntaxToken) (s : PlacedStatement) (spots : StatementOffsets)
+module _ (bytes : List ℕ) (target : Place) (tokens : List SyntaxToken) (s : PlacedStatement) (offsets : StatementOffsets)
     (r : PathMatch × Option ℕ) where
   -- the header of an element
   pub element_taken : (standing now : SearchState) (element : PathMatch) (own within : Bool)
-      → is_element_header s.statement ≡ true → IsTokenized bytes marks s spots
+      → is_element_header s.statement ≡ true → IsTokenized bytes tokens s offsets
       → IsSearchState target s.earlier s.prefix standing
-      → Promises bytes target standing.counts.items marks (On 0) r
+      → Promises bytes target standing.counts.items tokens (On 0) r
       → element ≡ extend_path_match target r.0 (index (count_on standing.counts.items r.0))
       → now.prefix ≡ element
       → now.counts.items ≡ counted r.0 standing.counts.items
       → own ≡ is_at (length target) element → within ≡ is_at_or_below (length target) element
-      → (made own within true r.1 spots ≡ entry_of target s)
+      → (made own within true r.1 offsets ≡ entry_of target s)
       × IsSearchState target (s.earlier ++ of_statement s.earlier s.prefix s.statement)
       (prefix_after s.earlier s.prefix s.statement) now
   element_taken standing now element own within kind taken stands promised at_last under more is_own is_in =
       go s.statement kind taken
     where
       go : (st : Statement) → is_element_header st ≡ true
-          → IsTokenized bytes marks (record s { statement = st }) spots
-          → (made own within true r.1 spots ≡ entry_of target (record s { statement = st }))
+          → IsTokenized bytes tokens (record s { statement = st }) offsets
+          → (made own within true r.1 offsets ≡ entry_of target (record s { statement = st }))
           × IsSearchState target (s.earlier ++ of_statement s.earlier s.prefix st)
           (prefix_after s.earlier s.prefix st) now
       go (pair k a b v) e t = absurd cc
@@ -174,7 +174,7 @@ module _ (bytes : List ℕ) (target : Place) (marks : List SyntaxToken) (s : Pla
           let s2 : PlacedStatement = record s { statement = element_header a k b } in
           let rest = (key_of s2).1 in
           let counts = standing.counts.items in
-          let g = promised [] (last_element_or_self s.earlier) _ _ t.parts_marked
+          let g = promised [] (last_element_or_self s.earlier) _ _ t.are_parts
           (follows_counts target s.earlier counts stands.counts) (way_root target) in
           let q = header_place s.earlier [] (names k) in
           let own_place = at q (index (elements_at s.earlier q)) in
@@ -182,7 +182,7 @@ module _ (bytes : List ℕ) (target : Place) (marks : List SyntaxToken) (s : Pla
           let last : element ≡ path_match target own_place = at_last ∙
           ap (λ (w : PathMatch). extend_path_match target w (index (count_on counts w))) come ∙
           element_way target s.earlier counts q stands.counts in (
-            entry_is true _ _ _ _ _ _ spots _ _ _ _
+            entry_is true _ _ _ _ _ _ offsets _ _ _ _
                 (is_own ∙ ap (is_at (length target)) last ∙ sym (same_is target own_place))
                 (is_in ∙ ap (is_at_or_below (length target)) last ∙ sym (within_is target own_place))
                 g.1 t.line t.key t.after t.next,

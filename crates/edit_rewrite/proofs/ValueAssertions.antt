@@ -134,10 +134,10 @@ module _ (w : PlacedValue) (a : Assertion) (own : Among a (asserted_by w)) where
       (λ r. lines_in (earlier ++ made) next ls r)
       (among_append w (in_statement prefix s after) (in_lines (earlier ++ made) next ls) m)
 
-pub value_told : (form : Text) (w : PlacedValue) (a : Assertion) → Among w (values form)
+pub value_assertion : (form : Text) (w : PlacedValue) (a : Assertion) → Among w (values form)
     → Among a (asserted_by w)
     → Among a (assertions form)
-value_told form w a m own = lines_in w a own [] [] form.lines m
+value_assertion form w a m own = lines_in w a own [] [] form.lines m
 
 -- ---- a place with a value has no other assertion
 
@@ -166,7 +166,7 @@ pub value_alone : (form : Text) (w : PlacedValue) (a : Assertion) → AreCompati
     → Among a (assertions form) → a.place ≡ w.place → a.kind ≡ leaf w.value
 value_alone form w a clash m n e =
     let own = asserts w.place w.place (leaf w.value) in
-    one_leaf (assertions form) w.value a own clash n (value_told form w own m (inl refl)) e refl
+    one_leaf (assertions form) w.value a own clash n (value_assertion form w own m (inl refl)) e refl
 
 -- ---- what a value shows
 
@@ -182,7 +182,7 @@ pub value_kind : (form : Text) (w : PlacedValue) → AreCompatible (assertions f
 value_kind form w clash m =
     let own = asserts w.place w.place (leaf w.value) in
     leaf_there w.place w.value (assertions form) clash
-    (leaf_has w.place w.value (assertions form) (value_told form w own m (inl refl)))
+    (leaf_has w.place w.value (assertions form) (value_assertion form w own m (inl refl)))
 
 kind_inline : (made : List Assertion) (p : Place) (v : Value)
     → is_inline (view_of_kind made p (leaf v)) ≡ is_table_value v

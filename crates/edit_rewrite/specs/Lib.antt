@@ -2,6 +2,6 @@ pub mod Entries
 pub mod SearchStates
 pub mod StatementOffsets
 pub mod Remainders
-pub mod EntrySpots
+pub mod PairOffsets
 pub mod RemoveText
 pub mod Inner

@@ -6,13 +6,13 @@ use Rattle.edit_syntax.specs.Grammar.{value, IsValue, Text}
 use Rattle.edit_rewrite.specs.declared.remove_text.Around.{Around}
 use Rattle.edit_tree.specs.Assertions.{Place}
 use Rattle.edit_tree.specs.RemovedBytes.{innermost}
-use Rattle.edit_rewrite.specs.StatementOffsets.{IsSpot}
+use Rattle.edit_rewrite.specs.StatementOffsets.{IsSuffix}
 use Rattle.edit_tree.specs.Written.{PlacedValue, values}
 
 -- a value of a text as the code represents it: the number of steps to it, and the offsets of its start and
 -- its end, counted from the end of the text
 pub record IsFoundAt (form : Text) (w : PlacedValue) (a : Around) : Type 0 where
-  pub told : Contains (values form) w
+  pub listed : Contains (values form) w
   pub steps : a.steps ≡ length w.place
   pub from : a.from ≡ length (value w.value w.after)
   pub to : a.to ≡ length w.after
@@ -33,7 +33,7 @@ HasAround form gone r = MatchOption r (innermost gone form ≡ None) (IsAround f
 pub record StandsBetween (bytes : List ℕ) (w : PlacedValue) (from to : ℕ) : Type 0 where
   pub valid : IsValue w.value
   pub shallow : depth w.value ≤ 80
-  pub start : IsSpot bytes (value w.value w.after)
-  pub end : IsSpot bytes w.after
+  pub start : IsSuffix bytes (value w.value w.after)
+  pub end : IsSuffix bytes w.after
   pub from_is : from ≡ length (value w.value w.after)
   pub to_is : to ≡ length w.after

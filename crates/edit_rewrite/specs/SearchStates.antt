@@ -44,10 +44,10 @@ HeadIs s head = (is_table_header_next head ≡ is_table_header s)
     × (is_element_header_next head ≡ is_element_header s)
 
 -- the tokens and the offsets are those of the statement
-pub record IsTokenized (bytes : List ℕ) (marks : List SyntaxToken) (s : PlacedStatement) (spots : StatementOffsets) : Type 0 where
-  pub parts_marked : AreParts bytes (parts (key_of s).0 (key_of s).1) marks
-  pub head : HeadIs s.statement (kind_after_key marks)
-  pub line : spots.line ≡ length s.line
-  pub key : spots.key ≡ length (key_text (key_of s).0 (key_of s).1)
-  pub after : spots.after ≡ length s.after
-  pub next : spots.next ≡ length s.next
+pub record IsTokenized (bytes : List ℕ) (tokens : List SyntaxToken) (s : PlacedStatement) (offsets : StatementOffsets) : Type 0 where
+  pub are_parts : AreParts bytes (parts (key_of s).0 (key_of s).1) tokens
+  pub head : HeadIs s.statement (kind_after_key tokens)
+  pub line : offsets.line ≡ length s.line
+  pub key : offsets.key ≡ length (key_text (key_of s).0 (key_of s).1)
+  pub after : offsets.after ≡ length s.after
+  pub next : offsets.next ≡ length s.next

@@ -10,29 +10,29 @@ use Rattle.edit_tree.specs.EditBytes.{before}
 use Rattle.edit_rewrite.specs.Entries.{key_of, front_of}
 
 -- it is a suffix of the text that begins at a character boundary
-pub record IsSpot (bytes spot : List ℕ) : Type 0 where
+pub record IsSuffix (bytes suffix : List ℕ) : Type 0 where
   pub front : List ℕ
-  pub seam : bytes ≡ front ++ spot
-  pub fits : IsCharBoundary bytes (length bytes - length spot)
+  pub seam : bytes ≡ front ++ suffix
+  pub fits : IsCharBoundary bytes (length bytes - length suffix)
 
 -- the suffix behind the front part of a key that names a place lies within the suffix at the key, at a
 -- character boundary
-pub record IsFront (bytes from spot : List ℕ) : Type 0 where
-  pub cut : IsSpot bytes spot
+pub record IsFront (bytes from suffix : List ℕ) : Type 0 where
+  pub cut : IsSuffix bytes suffix
   pub head : List ℕ
-  pub ends : from ≡ head ++ spot
+  pub ends : from ≡ head ++ suffix
 
 -- the positions of a statement are suffixes of the text at character boundaries
 pub record HasOffsets (bytes : List ℕ) (s : PlacedStatement) : Type 0 where
-  pub line : IsSpot bytes s.line
-  pub key : IsSpot bytes (key_text (key_of s).0 (key_of s).1)
-  pub after : IsSpot bytes s.after
-  pub front : (place : Place) (spot : List ℕ) → front_of place s ≡ Some spot
-      → IsFront bytes (key_text (key_of s).0 (key_of s).1) spot
+  pub line : IsSuffix bytes s.line
+  pub key : IsSuffix bytes (key_text (key_of s).0 (key_of s).1)
+  pub after : IsSuffix bytes s.after
+  pub front : (place : Place) (suffix : List ℕ) → front_of place s ≡ Some suffix
+      → IsFront bytes (key_text (key_of s).0 (key_of s).1) suffix
 
 -- the key of a statement up to a suffix of the text
 abbrev pub key_to : PlacedStatement → List ℕ → List ℕ
-key_to s spot = before (key_text (key_of s).0 (key_of s).1) spot
+key_to s suffix = before (key_text (key_of s).0 (key_of s).1) suffix
 
 -- a header with this key, and a line below it
 abbrev pub section_text : List ℕ → List ℕ → List ℕ

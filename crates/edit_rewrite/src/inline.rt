@@ -9,7 +9,7 @@ ghost use Rattle.edit_document.specs.Items.{place_view};
 ghost use Rattle.edit_tree.specs.NewItems.{NewValue as IntendedTrees, new_pair};
 ghost use Rattle.edit_document.specs.Ranges.{HasTable};
 ghost use Rattle.edit_tree.specs.SlotTexts.{TableAt};
-ghost use Rattle.edit_rewrite.specs.StatementOffsets.{IsSpot};
+ghost use Rattle.edit_rewrite.specs.StatementOffsets.{IsSuffix};
 ghost use Rattle.edit_tree.specs.Assertions.{IsDocument};
 
 use crate::inside::{begins, behind_one, past_slot};
@@ -47,18 +47,18 @@ fn past_last<'a>(alloc: Global, text: &str, table: &'a [u8]) -> CargoResult<&'a 
 pub(crate) fn with_lead(
     alloc: Global,
     text: &str,
-    spot: usize,
+    offset: usize,
     lead: &str,
     member: &str,
 ) -> CargoResult<String>
-    ensures text { (rest : List ℕ) → IsSpot text.now rest → spot ≡ length rest
+    ensures text { (rest : List ℕ) → IsSuffix text.now rest → offset ≡ length rest
         → IfOk result (λ s. string_bytes s
         ≡ with_splice text.now (put_before rest (lead.now ++ member.now))) }
     ensures error { IfErr result IsMemory }
 {
     let mut now = String::from_str(alloc, lead)?;
     now.push_str(member)?;
-    with_text(alloc, text, spot, now.as_str())
+    with_text(alloc, text, offset, now.as_str())
 }
 
 /// The text with the range between two offsets replaced by a member with a space on each side.
@@ -69,7 +69,7 @@ fn with_alone(
     to: usize,
     member: &str,
 ) -> CargoResult<String>
-    ensures text { (s t : List ℕ) → IsSpot text.now s → IsSpot text.now t → from ≡ length s → to ≡ length t
+    ensures text { (s t : List ℕ) → IsSuffix text.now s → IsSuffix text.now t → from ≡ length s → to ≡ length t
         → IfOk result (λ r. string_bytes r ≡ with_splice text.now
         (record { from = s; to = t; now = codes " " ++ (member.now ++ codes " ") })) }
     ensures error { IfErr result IsMemory }

@@ -63,9 +63,9 @@ fn inner_at<'a>(
         → MatchResult result (λ r. (r.0 ≡ inner_seen.inner_in (place_view place.now) above it (gap c rest))
         × (r.1.now ≡ gap c rest)) IsMemory }
 {
-    let mut marks = Vec::new(alloc);
-    let value = past_name(&mut marks, s)?;
-    let (_, front) = follow_key(alloc, text, place, marks.as_slice(), table, &[])?;
+    let mut tokens = Vec::new(alloc);
+    let value = past_name(&mut tokens, s)?;
+    let (_, front) = follow_key(alloc, text, place, tokens.as_slice(), table, &[])?;
     let rest = past_value(alloc, value)?;
     Ok((inner_from(s, front, rest), rest))
 }
@@ -103,10 +103,10 @@ pub(crate) fn last_inner(
 
 /// The text with a new pair inserted behind the value of one whose key passes through the place.
 pub(crate) fn with_inner(alloc: Global, text: &str, inner: Inner, pair: &str) -> CargoResult<String>
-    ensures text { (place : Place) (p : PlacedPair) (spot : List ℕ) → inner_seen.HasInner text.now p spot
-        → front_to place p ≡ Some spot → inner_seen.inner_of place p ≡ Some inner
+    ensures text { (place : Place) (p : PlacedPair) (suffix : List ℕ) → inner_seen.HasInner text.now p suffix
+        → front_to place p ≡ Some suffix → inner_seen.inner_of place p ≡ Some inner
         → IfOk result (λ t. string_bytes t
-        ≡ with_splice text.now (put_before p.behind (codes ", " ++ dotted_pair p spot pair.now))) }
+        ≡ with_splice text.now (put_before p.behind (codes ", " ++ dotted_pair p suffix pair.now))) }
     ensures error { IfErr result IsMemory }
 {
     let mut member = String::from_str(alloc, between(text, inner.from, inner.front))?;

@@ -82,19 +82,19 @@ fn first_through(found: &[Entry]) -> Option<Entry>
 
 /// The part of a statement's key that names the place, as written.
 fn name_of(text: &str, entry: Entry) -> &str
-    ensures { (place : Place) (s : PlacedStatement) (spot : List ℕ) → HasOffsets text.now s
+    ensures { (place : Place) (s : PlacedStatement) (suffix : List ℕ) → HasOffsets text.now s
         → entry ≡ entry_of place s
-        → front_of place s ≡ Some spot → result.now ≡ key_to s spot }
+        → front_of place s ≡ Some suffix → result.now ≡ key_to s suffix }
 {
     between(text, entry.key, entry.front.unwrap_or(0))
 }
 
 /// The text with a dotted pair inserted on a new line behind one whose key passes through the place.
 fn with_dotted(alloc: Global, text: &str, entry: Entry, pair: &str) -> CargoResult<String>
-    ensures text { (place : Place) (s : PlacedStatement) (spot : List ℕ) → HasOffsets text.now s
-        → entry ≡ entry_of place s → front_of place s ≡ Some spot
+    ensures text { (place : Place) (s : PlacedStatement) (suffix : List ℕ) → HasOffsets text.now s
+        → entry ≡ entry_of place s → front_of place s ≡ Some suffix
         → IfOk result (λ t. string_bytes t
-        ≡ with_splice text.now (new_line s.after (key_to s spot · codes "." · pair.now))) }
+        ≡ with_splice text.now (new_line s.after (key_to s suffix · codes "." · pair.now))) }
     ensures error { IfErr result IsMemory }
 {
     let mut line = String::from_str(alloc, name_of(text, entry))?;
@@ -106,10 +106,10 @@ fn with_dotted(alloc: Global, text: &str, entry: Entry, pair: &str) -> CargoResu
 /// The text with a header of the place and a pair inserted before a header whose key passes through the
 /// place.
 fn with_header(alloc: Global, text: &str, entry: Entry, pair: &str) -> CargoResult<String>
-    ensures text { (place : Place) (s : PlacedStatement) (spot : List ℕ) → HasOffsets text.now s
-        → entry ≡ entry_of place s → front_of place s ≡ Some spot
+    ensures text { (place : Place) (s : PlacedStatement) (suffix : List ℕ) → HasOffsets text.now s
+        → entry ≡ entry_of place s → front_of place s ≡ Some suffix
         → IfOk result (λ t. string_bytes t
-        ≡ with_splice text.now (put_before s.line (section_text (key_to s spot) pair.now))) }
+        ≡ with_splice text.now (put_before s.line (section_text (key_to s suffix) pair.now))) }
     ensures error { IfErr result IsMemory }
 {
     with_section(alloc, text, entry.line, name_of(text, entry), pair)

@@ -175,32 +175,32 @@ fn closer(is_table: bool) -> u8
 }
 
 /// Whether a token of a part of a key is the name in a step.
-fn is_step(alloc: Global, text: &str, mark: SyntaxToken, step: &Step) -> CargoResult<bool>
-    ensures { (name : List ℕ) → IsDecodedAt text.now mark name
+fn is_step(alloc: Global, text: &str, token: SyntaxToken, step: &Step) -> CargoResult<bool>
+    ensures { (name : List ℕ) → IsDecodedAt text.now token name
         → MatchResult result (λ b. b ≡ same_step (step_view step.now) (name_step name)) IsMemory }
 {
     match step {
         Step::Index(_) => Ok(false),
         Step::Key(key) => {
-            let words = decode_token(alloc, text, mark)?;
-            Ok(decoded_str(text, &words) == key.as_str())
+            let decoded = decode_token(alloc, text, token)?;
+            Ok(decoded_str(text, &decoded) == key.as_str())
         }
     }
 }
 
 /// Whether a key with these tokens names the place `steps` or one below it.
-fn is_named(alloc: Global, text: &str, marks: &[SyntaxToken], steps: &[Step]) -> CargoResult<bool>
-    ensures { (ns : List (List ℕ)) → AreDecodedAs text.now marks.now ns
+fn is_named(alloc: Global, text: &str, tokens: &[SyntaxToken], steps: &[Step]) -> CargoResult<bool>
+    ensures { (ns : List (List ℕ)) → AreDecodedAs text.now tokens.now ns
         → MatchResult result (λ b. b ≡ is_within (place_view steps.now) (map name_step ns)) IsMemory }
 {
     let [step, steps @ ..] = steps else {
         return Ok(true);
     };
-    let [mark, marks @ ..] = marks else {
+    let [token, tokens @ ..] = tokens else {
         return Ok(false);
     };
-    if is_step(alloc, text, *mark, step)? {
-        is_named(alloc, text, marks, steps)
+    if is_step(alloc, text, *token, step)? {
+        is_named(alloc, text, tokens, steps)
     } else {
         Ok(false)
     }
@@ -233,9 +233,9 @@ pub(crate) fn past_slot<'a>(
         let rest = past_value(alloc, s)?;
         return Ok((is_element(index, below), rest));
     }
-    let mut marks = Vec::new(alloc);
-    let value = past_name(&mut marks, s)?;
-    let is_gone = is_named(alloc, text, marks.as_slice(), below)?;
+    let mut tokens = Vec::new(alloc);
+    let value = past_name(&mut tokens, s)?;
+    let is_gone = is_named(alloc, text, tokens.as_slice(), below)?;
     let rest = past_value(alloc, value)?;
     Ok((is_gone, rest))
 }

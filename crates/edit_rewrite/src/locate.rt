@@ -120,19 +120,19 @@ impl SearchState {
         alloc: Global,
         text: &str,
         place: &[Step],
-        marks: &[SyntaxToken],
-        spots: StatementOffsets,
+        tokens: &[SyntaxToken],
+        offsets: StatementOffsets,
     ) -> CargoResult<Entry>
         ensures taken { (s : PlacedStatement) → is_pair s.statement ≡ true
-            → IsTokenized text.now marks.now s spots
+            → IsTokenized text.now tokens.now s offsets
             → IsSearchState (place_view place.now) s.earlier s.prefix self.now
             → IfOk result (λ e. (e ≡ entries_seen.entry_of (place_view place.now) s)
             × IsSearchState (place_view place.now) (s.earlier ++ of_statement s.earlier s.prefix s.statement)
             (prefix_after s.earlier s.prefix s.statement) self.now) }
         ensures error { IfErr result IsMemory }
     {
-        let (named, front) = follow_key(alloc, text, place, marks, self.prefix, &[])?;
-        Ok(spots.entry(
+        let (named, front) = follow_key(alloc, text, place, tokens, self.prefix, &[])?;
+        Ok(offsets.entry(
             is_at(self.prefix, place),
             is_at_or_below(named, place),
             false,
@@ -146,20 +146,20 @@ impl SearchState {
         alloc: Global,
         text: &str,
         place: &[Step],
-        marks: &[SyntaxToken],
-        spots: StatementOffsets,
+        tokens: &[SyntaxToken],
+        offsets: StatementOffsets,
     ) -> CargoResult<Entry>
         ensures taken { (s : PlacedStatement) → is_table_header s.statement ≡ true
-            → IsTokenized text.now marks.now s spots
+            → IsTokenized text.now tokens.now s offsets
             → IsSearchState (place_view place.now) s.earlier s.prefix self.old
             → IfOk result (λ e. (e ≡ entries_seen.entry_of (place_view place.now) s)
             × IsSearchState (place_view place.now) (s.earlier ++ of_statement s.earlier s.prefix s.statement)
             (prefix_after s.earlier s.prefix s.statement) self.new) }
         ensures error { IfErr result IsMemory }
     {
-        let (named, front) = follow_key(alloc, text, place, marks, PathMatch::On(0), &self.counts)?;
+        let (named, front) = follow_key(alloc, text, place, tokens, PathMatch::On(0), &self.counts)?;
         self.prefix = named;
-        Ok(spots.entry(
+        Ok(offsets.entry(
             is_at(named, place),
             is_at_or_below(named, place),
             true,
@@ -173,22 +173,22 @@ impl SearchState {
         alloc: Global,
         text: &str,
         place: &[Step],
-        marks: &[SyntaxToken],
-        spots: StatementOffsets,
+        tokens: &[SyntaxToken],
+        offsets: StatementOffsets,
     ) -> CargoResult<Entry>
         ensures taken { (s : PlacedStatement) → is_element_header s.statement ≡ true
-            → IsTokenized text.now marks.now s spots
+            → IsTokenized text.now tokens.now s offsets
             → IsSearchState (place_view place.now) s.earlier s.prefix self.old
             → IfOk result (λ e. (e ≡ entries_seen.entry_of (place_view place.now) s)
             × IsSearchState (place_view place.now) (s.earlier ++ of_statement s.earlier s.prefix s.statement)
             (prefix_after s.earlier s.prefix s.statement) self.new) }
         ensures error { IfErr result IsMemory }
     {
-        let (named, front) = follow_key(alloc, text, place, marks, PathMatch::On(0), &self.counts)?;
+        let (named, front) = follow_key(alloc, text, place, tokens, PathMatch::On(0), &self.counts)?;
         let element = step_by_index(named, place, count_on(named, &self.counts));
         count_more(&mut self.counts, named)?;
         self.prefix = element;
-        Ok(spots.entry(
+        Ok(offsets.entry(
             is_at(element, place),
             is_at_or_below(element, place),
             true,
@@ -202,23 +202,23 @@ impl SearchState {
         alloc: Global,
         text: &str,
         place: &[Step],
-        marks: &[SyntaxToken],
-        spots: StatementOffsets,
+        tokens: &[SyntaxToken],
+        offsets: StatementOffsets,
     ) -> CargoResult<Entry>
-        ensures taken { (s : PlacedStatement) → IsTokenized text.now marks.now s spots
+        ensures taken { (s : PlacedStatement) → IsTokenized text.now tokens.now s offsets
             → IsSearchState (place_view place.now) s.earlier s.prefix self.old
             → IfOk result (λ e. (e ≡ entries_seen.entry_of (place_view place.now) s)
             × IsSearchState (place_view place.now) (s.earlier ++ of_statement s.earlier s.prefix s.statement)
             (prefix_after s.earlier s.prefix s.statement) self.new) }
         ensures error { IfErr result IsMemory }
     {
-        if is_table_header_next(marks) {
-            return self.take_header(alloc, text, place, marks, spots);
+        if is_table_header_next(tokens) {
+            return self.take_header(alloc, text, place, tokens, offsets);
         }
-        if is_element_header_next(marks) {
-            return self.take_element(alloc, text, place, marks, spots);
+        if is_element_header_next(tokens) {
+            return self.take_element(alloc, text, place, tokens, offsets);
         }
-        self.take_pair(alloc, text, place, marks, spots)
+        self.take_pair(alloc, text, place, tokens, offsets)
     }
 }
 
@@ -230,23 +230,23 @@ pub(crate) fn entries(alloc: Global, text: &str, place: &[Step]) -> CargoResult<
 {
     let mut found = Vec::new(alloc);
     let mut standing = SearchState::new(alloc, place)?;
-    let mut marks = Vec::new(alloc);
+    let mut tokens = Vec::new(alloc);
     let mut rest = skip_byte_order_mark(text.as_bytes());
     'lines: for _line in 0..text.len() + 1 {
-        marks.clear();
-        let Ok(after) = first_line(&mut marks, rest) else {
+        tokens.clear();
+        let Ok(after) = first_line(&mut tokens, rest) else {
             return Err(Error::Memory);
         };
         let next = next_line(after);
-        let seen = marks.as_slice();
+        let seen = tokens.as_slice();
         if !seen.is_empty() {
-            let spots = StatementOffsets {
+            let offsets = StatementOffsets {
                 line: rest.len(),
                 key: first_from(seen),
                 after: after.len(),
                 next: next.len(),
             };
-            found.push(standing.take(alloc, text, place, seen, spots)?)?;
+            found.push(standing.take(alloc, text, place, seen, offsets)?)?;
         }
         if after.is_empty() {
             return Ok(found);

@@ -6,7 +6,7 @@ ghost use Rattle.edit_syntax.specs.Strings.{Key};
 ghost use Rattle.edit_tree.specs.Assertions.{Place};
 ghost use Rattle.edit_tree.specs.EditBytes.{part_to};
 ghost use Rattle.edit_rewrite.specs.Entries.{path_match};
-ghost use Rattle.edit_rewrite.specs.EntrySpots.{part_offset, StandsIn, HasPairOffsets};
+ghost use Rattle.edit_rewrite.specs.PairOffsets.{part_offset, StandsIn, HasPairOffsets};
 ghost use Rattle.edit_document.specs.Items.{place_view};
 ghost use Rattle.edit_tree.specs.Slots.{of_pair};
 ghost use Rattle.edit_tree.specs.SlotTexts.{StandsAt};
@@ -26,16 +26,16 @@ use std::alloc::Global;
 fn part_end(
     named: PathMatch,
     front: Option<usize>,
-    marks: &[SyntaxToken],
+    tokens: &[SyntaxToken],
     place: &[Step],
 ) -> Option<usize>
-    ensures { result ≡ part_offset (length (place_view place.now)) named front marks.now }
+    ensures { result ≡ part_offset (length (place_view place.now)) named front tokens.now }
 {
     if front.is_some() {
         return front;
     }
     if is_at(named, place) {
-        Some(key_end(marks))
+        Some(key_end(tokens))
     } else {
         None
     }
@@ -58,11 +58,11 @@ fn past_member<'a>(
         × (r.1.now ≡ gap c rest)) }
     ensures error { IfErr result IsMemory }
 {
-    let mut marks = Vec::new(alloc);
-    let Ok(value) = past_name(&mut marks, s) else {
+    let mut tokens = Vec::new(alloc);
+    let Ok(value) = past_name(&mut tokens, s) else {
         return Err(Error::Memory);
     };
-    let seen = marks.as_slice();
+    let seen = tokens.as_slice();
     let (named, front) = follow_key(alloc, text, place, seen, start, &[])?;
     let Ok(after) = past_value(alloc, value) else {
         return Err(Error::Memory);

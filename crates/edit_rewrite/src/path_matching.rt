@@ -6,7 +6,7 @@ ghost use Rattle.edit_document.specs.Items.{place_view};
 ghost use Rattle.edit_tree.specs.Statements.{Named};
 ghost use Rattle.edit_rewrite.specs.SearchStates as standings;
 ghost use Rattle.edit_rewrite.specs.Entries as entries_seen;
-ghost use Rattle.edit_rewrite.specs.EntrySpots as spots_seen;
+ghost use Rattle.edit_rewrite.specs.PairOffsets as offsets_seen;
 
 use edit_base::errors::CargoResult;
 use edit_document::Step;
@@ -128,11 +128,11 @@ fn is_part(kind: TokenKind) -> bool
 }
 
 /// Whether the first token is a part of a key.
-fn begins_part(marks: &[SyntaxToken]) -> bool
-    ensures { result ≡ entries_seen.begins_part marks.now }
+fn begins_part(tokens: &[SyntaxToken]) -> bool
+    ensures { result ≡ entries_seen.begins_part tokens.now }
 {
-    match marks.first() {
-        Some(mark) => is_part(mark.kind),
+    match tokens.first() {
+        Some(token) => is_part(token.kind),
         None => false,
     }
 }
@@ -143,88 +143,88 @@ pub(crate) fn follow_key(
     alloc: Global,
     text: &str,
     place: &[Step],
-    marks: &[SyntaxToken],
+    tokens: &[SyntaxToken],
     start: PathMatch,
     counts: &[usize],
 ) -> CargoResult<(PathMatch, Option<usize>)>
     ensures goes { (table : Place) (resolve : Place → Place) (n : Named) (ns : List Named)
-        → entries_seen.AreParts text.now (n ∷ ns) marks.now
+        → entries_seen.AreParts text.now (n ∷ ns) tokens.now
         → entries_seen.Follows (place_view place.now) counts.now resolve
         → start ≡ entries_seen.path_match (place_view place.now) table
         → IfOk result (entries_seen.FollowsKey (place_view place.now) resolve table (n ∷ ns)) }
     ensures error { IfErr result IsMemory }
 {
-    if marks.is_empty() {
+    if tokens.is_empty() {
         return Ok((start, None));
     }
-    let mark = marks[0];
-    let words = decode_token(alloc, text, mark)?;
-    let here = step_by_key(start, place, decoded_str(text, &words));
-    let others = &marks[1..];
+    let token = tokens[0];
+    let decoded = decode_token(alloc, text, token)?;
+    let here = step_by_key(start, place, decoded_str(text, &decoded));
+    let others = &tokens[1..];
     if !begins_part(others) {
         return Ok((here, None));
     }
     let next = step_to_last_element(here, place, counts);
     let (end, front) = follow_key(alloc, text, place, others, next, counts)?;
     if is_at(next, place) {
-        Ok((end, Some(mark.to as usize)))
+        Ok((end, Some(token.to as usize)))
     } else {
         Ok((end, front))
     }
 }
 
 /// The kind of the first token that is not a part of a key.
-fn kind_after_key(marks: &[SyntaxToken]) -> Option<TokenKind>
-    ensures { result ≡ entries_seen.kind_after_key marks.now }
+fn kind_after_key(tokens: &[SyntaxToken]) -> Option<TokenKind>
+    ensures { result ≡ entries_seen.kind_after_key tokens.now }
 {
-    'marks: for mark in marks {
-        if !is_part(mark.kind) {
-            return Some(mark.kind);
+    'tokens: for token in tokens {
+        if !is_part(token.kind) {
+            return Some(token.kind);
         }
     }
     None
 }
 
 /// The offset of the first token, counted from the end of the text.
-pub(crate) fn first_from(marks: &[SyntaxToken]) -> usize
-    ensures { result ≡ entries_seen.first_from marks.now }
+pub(crate) fn first_from(tokens: &[SyntaxToken]) -> usize
+    ensures { result ≡ entries_seen.first_from tokens.now }
 {
-    match marks.first() {
-        Some(mark) => mark.from as usize,
+    match tokens.first() {
+        Some(token) => token.from as usize,
         None => 0,
     }
 }
 
 /// Whether the key at the front is that of a header `[key]`.
-pub(crate) fn is_table_header_next(marks: &[SyntaxToken]) -> bool
-    ensures { result ≡ standings.is_table_header_next (entries_seen.kind_after_key marks.now) }
+pub(crate) fn is_table_header_next(tokens: &[SyntaxToken]) -> bool
+    ensures { result ≡ standings.is_table_header_next (entries_seen.kind_after_key tokens.now) }
 {
-    match kind_after_key(marks) {
+    match kind_after_key(tokens) {
         Some(TokenKind::Header) => true,
         _ => false,
     }
 }
 
 /// Whether the key at the front is that of a header `[[key]]`.
-pub(crate) fn is_element_header_next(marks: &[SyntaxToken]) -> bool
-    ensures { result ≡ standings.is_element_header_next (entries_seen.kind_after_key marks.now) }
+pub(crate) fn is_element_header_next(tokens: &[SyntaxToken]) -> bool
+    ensures { result ≡ standings.is_element_header_next (entries_seen.kind_after_key tokens.now) }
 {
-    match kind_after_key(marks) {
+    match kind_after_key(tokens) {
         Some(TokenKind::ElementHeader) => true,
         _ => false,
     }
 }
 
 /// The offset behind the last part of the key at the front, counted from the end of the text.
-pub(crate) fn key_end(marks: &[SyntaxToken]) -> usize
-    ensures { result ≡ spots_seen.key_end 0 marks.now }
+pub(crate) fn key_end(tokens: &[SyntaxToken]) -> usize
+    ensures { result ≡ offsets_seen.key_end 0 tokens.now }
 {
     let mut end = 0;
-    'marks: for mark in marks {
-        if !is_part(mark.kind) {
+    'tokens: for token in tokens {
+        if !is_part(token.kind) {
             return end;
         }
-        end = mark.to as usize;
+        end = token.to as usize;
     }
     end
 }

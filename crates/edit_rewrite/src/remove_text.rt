@@ -24,7 +24,7 @@ use std::alloc::Global;
 /// before it.
 fn without_lines(alloc: Global, text: &str, place: &[Step]) -> CargoResult<String>
     ensures text { IfDocument text.now (λ form. IfOk result (λ t. string_bytes t
-        ≡ byte_order_mark form.marked (lines_left (place_view place.now) (lines form.lines)
+        ≡ byte_order_mark form.has_byte_order_mark (lines_left (place_view place.now) (lines form.lines)
         (placed_statements form)))) }
     ensures error { IfErr result IsMemory }
 {

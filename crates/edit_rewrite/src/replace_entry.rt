@@ -8,13 +8,13 @@ ghost use Rattle.edit_tree.specs.Assertions.{IsDocument, Place};
 ghost use Rattle.edit_tree.specs.EditBytes.{Splice, first_result, with_splice, replaced_text, is_one_statement};
 ghost use Rattle.edit_document.specs.Forms.{Becomes, IfDocument};
 ghost use Rattle.edit_rewrite.specs.Entries.{entry_of};
-ghost use Rattle.edit_rewrite.specs.EntrySpots.{within_entry, last_end, IsAround, HasPairOffsets, HasPairOffsetsIn};
+ghost use Rattle.edit_rewrite.specs.PairOffsets.{within_entry, last_end, IsAround, HasPairOffsets, HasPairOffsetsIn};
 ghost use Rattle.edit_document.specs.Items.{place_view};
 ghost use Rattle.edit_tree.specs.IntendedTrees.{HasReplaced, ReplaceFails};
 ghost use Rattle.edit_tree.specs.NewItems.{IsEntry};
 ghost use Rattle.edit_document.specs.NewItemViews.{new_item_view};
 ghost use Rattle.edit_tree.specs.DocumentViews.{tree_of};
-ghost use Rattle.edit_rewrite.specs.StatementOffsets.{IsSpot};
+ghost use Rattle.edit_rewrite.specs.StatementOffsets.{IsSuffix};
 ghost use Rattle.edit_tree.specs.Statements.{PlacedStatement, placed_statements, line_pairs, inner_pairs};
 
 use crate::locate::{Entry, entries};
@@ -47,12 +47,12 @@ fn first_within(found: &[Entry]) -> Option<Entry>
 }
 
 /// The offset behind the last token of a list, counted from the end of the text.
-fn last_to(marks: &[SyntaxToken]) -> usize
-    ensures { result ≡ last_end 0 marks.now }
+fn last_to(tokens: &[SyntaxToken]) -> usize
+    ensures { result ≡ last_end 0 tokens.now }
 {
     let mut end = 0;
-    'marks: for mark in marks {
-        end = mark.to as usize;
+    'tokens: for token in tokens {
+        end = token.to as usize;
     }
     end
 }
@@ -64,11 +64,11 @@ fn pair_offsets(alloc: Global, text: &str, entry: Entry) -> CargoResult<(usize, 
         → within_entry entry ≡ Some entry → IfOk result (IsAround place (line_pairs form)) }
     ensures error { IfErr result IsMemory }
 {
-    let mut marks = Vec::new(alloc);
-    let Ok(_) = first_line(&mut marks, between(text, entry.line, 0).as_bytes()) else {
+    let mut tokens = Vec::new(alloc);
+    let Ok(_) = first_line(&mut tokens, between(text, entry.line, 0).as_bytes()) else {
         return Err(Error::Memory);
     };
-    let seen = marks.as_slice();
+    let seen = tokens.as_slice();
     Ok((entry.front.unwrap_or(key_end(seen)), last_to(seen)))
 }
 
@@ -87,7 +87,7 @@ fn line_offsets(alloc: Global, text: &str, place: &[Step]) -> CargoResult<Option
 
 /// The text with the range between two offsets, counted from its end, replaced by `now`.
 fn splice_text(alloc: Global, text: &str, from: usize, to: usize, now: &str) -> CargoResult<String>
-    ensures text { (s : Splice) → IsSpot text.now s.from → IsSpot text.now s.to → from ≡ length s.from
+    ensures text { (s : Splice) → IsSuffix text.now s.from → IsSuffix text.now s.to → from ≡ length s.from
         → to ≡ length s.to → now.now ≡ s.now → IfOk result (λ r. string_bytes r ≡ with_splice text.now s) }
     ensures error { IfErr result IsMemory }
 {
@@ -134,9 +134,9 @@ fn inline_offsets(
     ensures error { IfErr result IsMemory }
 {
     'ends: for end in 0..place.len() + 1 {
-        let spots = inline_pair_offsets(document, alloc, place, end)?;
-        if spots.is_some() {
-            return Ok(spots);
+        let offsets = inline_pair_offsets(document, alloc, place, end)?;
+        if offsets.is_some() {
+            return Ok(offsets);
         }
     }
     Ok(None)
@@ -151,11 +151,11 @@ fn entry_offsets(document: &Document, alloc: Global, place: &[Step]) -> CargoRes
     ensures error { IfErr result IsMemory }
 {
     document.lemma_form();
-    if let Some(spots) = line_offsets(alloc, document.as_str(), place)? {
-        return Ok(spots);
+    if let Some(offsets) = line_offsets(alloc, document.as_str(), place)? {
+        return Ok(offsets);
     }
     match inline_offsets(document, alloc, place)? {
-        Some(spots) => Ok(spots),
+        Some(offsets) => Ok(offsets),
         None => unreachable!(),
     }
 }

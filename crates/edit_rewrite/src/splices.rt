@@ -4,7 +4,7 @@ ghost use Rattle.edit_base.specs.Errors.{IsMemory};
 ghost use Rattle.edit_syntax.specs.Spans.{cut_from};
 ghost use Rattle.edit_syntax.specs.Strings.{line_end};
 ghost use Rattle.edit_tree.specs.EditBytes.{put_before, with_splice, end_like, new_line};
-ghost use Rattle.edit_rewrite.specs.StatementOffsets.{IsSpot, section_text};
+ghost use Rattle.edit_rewrite.specs.StatementOffsets.{IsSuffix, section_text};
 
 use edit_base::errors::CargoResult;
 use edit_tree::cut::between;
@@ -29,7 +29,7 @@ pub(crate) fn with_swap(
     to: usize,
     now: &str,
 ) -> CargoResult<String>
-    ensures text { (s t : List ℕ) → IsSpot text.now s → IsSpot text.now t → from ≡ length s → to ≡ length t
+    ensures text { (s t : List ℕ) → IsSuffix text.now s → IsSuffix text.now t → from ≡ length s → to ≡ length t
         → IfOk result (λ r. string_bytes r
         ≡ with_splice text.now (record { from = s; to = t; now = now.now })) }
     ensures error { IfErr result IsMemory }
@@ -42,17 +42,17 @@ pub(crate) fn with_swap(
 }
 
 /// The text with `now` inserted at an offset.
-pub(crate) fn with_text(alloc: Global, text: &str, spot: usize, now: &str) -> CargoResult<String>
-    ensures text { (rest : List ℕ) → IsSpot text.now rest → spot ≡ length rest
+pub(crate) fn with_text(alloc: Global, text: &str, offset: usize, now: &str) -> CargoResult<String>
+    ensures text { (rest : List ℕ) → IsSuffix text.now rest → offset ≡ length rest
         → IfOk result (λ s. string_bytes s ≡ with_splice text.now (put_before rest now.now)) }
     ensures error { IfErr result IsMemory }
 {
-    with_swap(alloc, text, spot, spot, now)
+    with_swap(alloc, text, offset, offset, now)
 }
 
 /// The text with a new line behind the line that ends at an offset.
 pub(crate) fn with_line(alloc: Global, text: &str, after: usize, line: &str) -> CargoResult<String>
-    ensures text { (rest : List ℕ) → IsSpot text.now rest → after ≡ length rest
+    ensures text { (rest : List ℕ) → IsSuffix text.now rest → after ≡ length rest
         → IfOk result (λ s. string_bytes s ≡ with_splice text.now (new_line rest line.now)) }
     ensures error { IfErr result IsMemory }
 {
@@ -69,7 +69,7 @@ pub(crate) fn with_section(
     name: &str,
     line: &str,
 ) -> CargoResult<String>
-    ensures text { (rest : List ℕ) → IsSpot text.now rest → before ≡ length rest
+    ensures text { (rest : List ℕ) → IsSuffix text.now rest → before ≡ length rest
         → IfOk result (λ s. string_bytes s
         ≡ with_splice text.now (put_before rest (section_text name.now line.now))) }
     ensures error { IfErr result IsMemory }

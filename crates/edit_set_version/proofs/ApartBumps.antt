@@ -34,11 +34,11 @@ StandApart (m ∷ ms) = AllByRecursion (IsApart m) ms × StandApart ms
 -- ---- from the metadata
 
 -- the text of a member's folder
-abbrev pub folder_told : Member → List ℕ
-folder_told m = folder_text (folder_of m.path)
+abbrev pub folder_text_of : Member → List ℕ
+folder_text_of m = folder_text (folder_of m.path)
 
 -- texts that differ are those of other folders
-other_texts : (m c : Member) → folder_told m ≢ folder_told c → IsApart m c
+other_texts : (m c : Member) → folder_text_of m ≢ folder_text_of c → IsApart m c
 other_texts m c differ = elim (cases_Bool (same_folder (folder_of m.path) (folder_of c.path))) [
   | inl same ↦ absurd (differ (ap folder_text (same_folder_is (folder_of m.path) (folder_of c.path) same)))
   | inr other ↦ other
@@ -52,35 +52,35 @@ later_all R x (y ∷ ys) h =
     (h zero y (omega arith), later_all R x ys (λ j d w. h (suc j) d (omega (arith, w))))
 
 -- so are folders of members, by their texts
-members_apart : (ms : List Member) → AllPairs (λ (a b : List ℕ). a ≢ b) (map folder_told ms) → StandApart ms
+members_apart : (ms : List Member) → AllPairs (λ (a b : List ℕ). a ≢ b) (map folder_text_of ms) → StandApart ms
 members_apart [] pairs = tt
 members_apart (m ∷ ms) pairs = (
-  each ms (later_all (λ (a b : List ℕ). a ≢ b) (folder_told m) (map folder_told ms)
+  each ms (later_all (λ (a b : List ℕ). a ≢ b) (folder_text_of m) (map folder_text_of ms)
       (λ j d w. pairs zero (suc j) d (omega arith) (omega (arith, w)))),
   members_apart ms (λ i j d lt w. pairs (suc i) (suc j) d (omega (arith, lt)) (omega (arith, w))),
 )
   where
     each : (cs : List Member)
-        → AllByRecursion (λ (b : List ℕ). folder_told m ≢ b) (map folder_told cs)
+        → AllByRecursion (λ (b : List ℕ). folder_text_of m ≢ b) (map folder_text_of cs)
         → AllByRecursion (IsApart m) cs
     each [] h = tt
     each (c ∷ cs) h = (other_texts m c h.0, each cs h.1)
 
 -- the folders of manifests are those of the members
-folders_told : (is : List Input) (ps : List PackageModel) (folders : List (List ℕ)) (ms : List Member)
+folder_texts : (is : List Input) (ps : List PackageModel) (folders : List (List ℕ)) (ms : List Member)
     → AllZip IsManifestFolder (map (λ (p : PackageModel). p.manifest_path) ps) folders
-    → AllZip (IsMemberOf is) ps ms → folders ≡ map folder_told ms
-folders_told is [] [] [] stand are = refl
-folders_told is [] [] (m ∷ ms) stand are = absurd are
-folders_told is [] (f ∷ fs) ms stand are = absurd stand
-folders_told is (p ∷ ps) [] ms stand are = absurd stand
-folders_told is (p ∷ ps) (f ∷ fs) [] stand are = absurd are
-folders_told is (p ∷ ps) (f ∷ fs) (m ∷ ms) stand are =
+    → AllZip (IsMemberOf is) ps ms → folders ≡ map folder_text_of ms
+folder_texts is [] [] [] stand are = refl
+folder_texts is [] [] (m ∷ ms) stand are = absurd are
+folder_texts is [] (f ∷ fs) ms stand are = absurd stand
+folder_texts is (p ∷ ps) [] ms stand are = absurd stand
+folder_texts is (p ∷ ps) (f ∷ fs) [] stand are = absurd are
+folder_texts is (p ∷ ps) (f ∷ fs) (m ∷ ms) stand are =
     let same = one_normal p.manifest_path stand.0.normal m.path stand.0.is_normal are.0.path in
-    let own : f ≡ folder_told m
+    let own : f ≡ folder_text_of m
     = folder_named p.manifest_path stand.0.normal f stand.0.is_normal stand.0.above
     ∙ ap (λ x. folder_text (folder_of x)) same in
-    ap (λ x. x ∷ fs) own ∙ ap (λ xs. folder_told m ∷ xs) (folders_told is ps fs ms stand.1 are.1)
+    ap (λ x. x ∷ fs) own ∙ ap (λ xs. folder_text_of m ∷ xs) (folder_texts is ps fs ms stand.1 are.1)
 
 -- the members of a project
 pub project_apart : (w : WorkspaceModel) (is : List Input) (p : Project) → HasOwnFolders w → IsProject w is p
@@ -88,7 +88,7 @@ pub project_apart : (w : WorkspaceModel) (is : List Input) (p : Project) → Has
 project_apart w is p own project =
     members_apart p.members
     (subst (AllPairs (λ (a b : List ℕ). a ≢ b))
-    (folders_told is (members w.packages) own.folders p.members own.stand project.members) own.apart)
+    (folder_texts is (members w.packages) own.folders p.members own.stand project.members) own.apart)
 
 -- ---- those that are chosen
 
@@ -105,12 +105,12 @@ apart_both m c apart = elim (cases_Bool (same_folder (folder_of c.path) (folder_
   | inr other ↦ other
 ]
 
-all_kept : {X : Type 0} (P : X → Type 0) (p : X → Bool) (xs : List X) → AllByRecursion P xs
+all_filtered : {X : Type 0} (P : X → Type 0) (p : X → Bool) (xs : List X) → AllByRecursion P xs
     → AllByRecursion P (filter p xs)
-all_kept P p [] all = tt
-all_kept P p (x ∷ xs) all = elim (cases_Bool (p x)) [
-  | inl passes ↦ rw passes (all.0, all_kept P p xs all.1)
-  | inr fails ↦ rw fails (all_kept P p xs all.1)
+all_filtered P p [] all = tt
+all_filtered P p (x ∷ xs) all = elim (cases_Bool (p x)) [
+  | inl passes ↦ rw passes (all.0, all_filtered P p xs all.1)
+  | inr fails ↦ rw fails (all_filtered P p xs all.1)
 ]
 
 -- one more in the middle
@@ -133,14 +133,14 @@ parts_apart : (p q : Member → Bool) → ((m : Member) → p m ≡ true → q m
 parts_apart p q none [] apart = tt
 parts_apart p q none (m ∷ ms) apart = elim (cases_Bool (p m)) [
   | inl first ↦ rw (first, none m first) (
-    all_append (IsApart m) (filter p ms) (filter q ms) (all_kept (IsApart m) p ms apart.0)
-        (all_kept (IsApart m) q ms apart.0),
+    all_append (IsApart m) (filter p ms) (filter q ms) (all_filtered (IsApart m) p ms apart.0)
+        (all_filtered (IsApart m) q ms apart.0),
     parts_apart p q none ms apart.1,
   )
   | inr past ↦ elim (cases_Bool (q m)) [
     | inl second ↦ rw (past, second) (put_apart (filter p ms) m (filter q ms)
-        (all_append (IsApart m) (filter p ms) (filter q ms) (all_kept (IsApart m) p ms apart.0)
-        (all_kept (IsApart m) q ms apart.0)) (parts_apart p q none ms apart.1))
+        (all_append (IsApart m) (filter p ms) (filter q ms) (all_filtered (IsApart m) p ms apart.0)
+        (all_filtered (IsApart m) q ms apart.0)) (parts_apart p q none ms apart.1))
     | inr neither ↦ rw (past, neither) (parts_apart p q none ms apart.1)
   ]
 ]
@@ -153,9 +153,9 @@ filter_none (x ∷ xs) = filter_none xs
 pub chosen_apart : (a : SelectionView) (ms : List Member) → StandApart ms → StandApart (chosen_members a ms)
 chosen_apart a ms apart = elim (cases_Bool (length (inheriting_members a ms) == 0)) [
   | inl alone ↦ rw alone (subst (λ xs. StandApart (filter (is_member_selected a) ms ++ xs)) (filter_none ms)
-      (parts_apart (is_member_selected a) (λ m. false) (λ m asked. refl) ms apart))
+      (parts_apart (is_member_selected a) (λ m. false) (λ m wanted. refl) ms apart))
   | inr more ↦ rw more (parts_apart (is_member_selected a) (λ m. not (is_member_selected a m) && is_inherited m.tree)
-      (λ m asked. rw asked refl) ms apart)
+      (λ m wanted. rw wanted refl) ms apart)
 ]
 
 -- ---- their bumps

@@ -15,11 +15,11 @@ use Rattle.edit_set_version.specs.declared.choose.Part.TheVariants.{Selected as 
 use Rattle.edit_set_version.specs.declared.choose.SelectedNames.{SelectedNames}
 
 -- those that a test keeps, with one more
-pub kept_more : {X Y : Type 0} (p : Y → Bool) (f : X → Y) (xs : List X) (i : ℕ) (x : X) → i < length xs
+pub filter_more : {X Y : Type 0} (p : Y → Bool) (f : X → Y) (xs : List X) (i : ℕ) (x : X) → i < length xs
     → x ≡ get_or xs i x
     → filter p (map f (take (i + 1) xs))
     ≡ filter p (map f (take i xs)) ++ (if p (f x) then f x ∷ [] else [])
-kept_more {X} {Y} p f xs i x within is =
+filter_more {X} {Y} p f xs i x within is =
     ap (filter p) (map_more f xs i x within ∙ ap (λ (z : X). map f (take i xs) ++ f z ∷ []) (sym is))
     ∙ filter-append p (map f (take i xs)) (f x ∷ [])
 
@@ -99,9 +99,9 @@ joined_texts sep (x ∷ xs) = ap (λ ts. x.now ++ ts) (rest xs)
     rest (y ∷ ys) = ap (λ ts. (sep ++ y.now) ++ ts) (rest ys)
 
 -- the set that decides has who is asked for
-pub wants_asked : (a : SelectionView) (w : SelectedNames) (m : Member) → IsSelectedNames a w
+pub wants_selected : (a : SelectionView) (w : SelectedNames) (m : Member) → IsSelectedNames a w
     → is_selected_by w m ≡ is_member_selected a m
-wants_asked a w m is =
+wants_selected a w m is =
     ap (λ b. if b then not (contains_text w.names m.name) else contains_text w.names m.name) is.all
     ∙ ap (λ c. if is_all_selected a then not c else c) (is.names m.name) ∙ by_case (is_all_selected a)
   where
@@ -112,18 +112,18 @@ wants_asked a w m is =
     by_case true = refl
     by_case false = refl
 
-pub asked_part : (a : SelectionView) (w : SelectedNames) (ms : List Member) → IsSelectedNames a w
+pub selected_part : (a : SelectionView) (w : SelectedNames) (ms : List Member) → IsSelectedNames a w
     → filter (is_in Asking w) ms ≡ filter (is_member_selected a) ms
-asked_part a w ms is = filter_same (is_in Asking w) (is_member_selected a) (λ m. wants_asked a w m is) ms
+selected_part a w ms is = filter_same (is_in Asking w) (is_member_selected a) (λ m. wants_selected a w m is) ms
 
 pub inheriting_part : (a : SelectionView) (w : SelectedNames) (ms : List Member) → IsSelectedNames a w
     → filter (is_in Inheriting w) ms ≡ inheriting_members a ms
 inheriting_part a w ms is =
     filter_same (is_in Inheriting w) (λ m. is_member_selected a m && is_inherited m.tree)
-    (λ m. ap (λ b. b && is_inherited m.tree) (wants_asked a w m is)) ms
+    (λ m. ap (λ b. b && is_inherited m.tree) (wants_selected a w m is)) ms
 
 pub others_part : (a : SelectionView) (w : SelectedNames) (ms : List Member) → IsSelectedNames a w
     → filter (is_in Others w) ms ≡ filter (λ m. not (is_member_selected a m) && is_inherited m.tree) ms
 others_part a w ms is =
     filter_same (is_in Others w) (λ m. not (is_member_selected a m) && is_inherited m.tree)
-    (λ m. ap (λ b. not b && is_inherited m.tree) (wants_asked a w m is)) ms
+    (λ m. ap (λ b. not b && is_inherited m.tree) (wants_selected a w m is)) ms

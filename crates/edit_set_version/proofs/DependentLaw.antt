@@ -115,20 +115,20 @@ at_entry : (bs : List Bump) (file : List ℕ) (tree base : Tree) (q : Place) (o 
     → option_and_then string_in o ≡ Some text
     → AllByRecursion (λ f. CanRise (upgrade_of f.text f.next)) (dependents bs file tree)
     → IsVersion v → CanReach text v → Admits text v
-at_entry bs file tree base q o text v like i leads kept look now all big can =
-    let asked : requirement tree q ≡ text_at tree (version_member q) = rw like refl in
+at_entry bs file tree base q o text v like i leads unchanged lookup now all big can =
+    let requirement_is : requirement tree q ≡ text_at tree (version_member q) = rw like refl in
     elim (option_cases (text_at tree (version_member q))) [
       | inl gone ↦
           let new : new_at bs file tree q ≡ None =
           ap (λ (x : Option (List ℕ)). option_and_then raised_dependent_text (dependent_at q x (next_at bs file tree q)))
-          (asked ∙ gone) in
+          (requirement_is ∙ gone) in
           let stands : o ≡ tree (version_member q) =
-          look ∙ (written_none (new_at bs file tree) base (entries tree) q new ∙ kept) in
+          lookup ∙ (written_none (new_at bs file tree) base (entries tree) q new ∙ unchanged) in
           let e : ◌≡◌ {A = Option (List ℕ)} (Some text) None =
           sym now ∙ (ap (λ x. option_and_then string_in x) stands ∙ gone) in
           cc e
       | inr old ↦
-          let req : requirement tree q ≡ Some old.0 = asked ∙ old.1 in
+          let req : requirement tree q ≡ Some old.0 = requirement_is ∙ old.1 in
           let f : Dependent = record { place = q; text = old.0; next = v } in
           let here : dependent bs file tree q ≡ Some f = rw (req, leads) refl in
           let fine : CanRise (upgrade_of old.0 v) =
@@ -138,7 +138,7 @@ at_entry bs file tree base q o text v like i leads kept look now all big can =
             | inl stays ↦
                 let new : new_at bs file tree q ≡ None = rw (here, stays) refl in
                 let stands : o ≡ tree (version_member q) =
-                look ∙ (written_none (new_at bs file tree) base (entries tree) q new ∙ kept) in
+                lookup ∙ (written_none (new_at bs file tree) base (entries tree) q new ∙ unchanged) in
                 let e : old.0 ≡ text =
                 text_is old.0 text (sym old.1 ∙ (sym (ap (λ x. option_and_then string_in x) stands) ∙ now)) in
                 let settled : upgrade_of text v ≡ Nothing = subst (λ (x : List ℕ). upgrade_of x v ≡ Nothing) e stays in
@@ -146,7 +146,7 @@ at_entry bs file tree base q o text v like i leads kept look now all big can =
             | inr goes ↦
                 let new : new_at bs file tree q ≡ Some goes.0 = rw (here, goes.1) refl in
                 let stands : o ≡ Some (string goes.0) =
-                look ∙ written_new (new_at bs file tree) base (entries tree) q goes.0 i new in
+                lookup ∙ written_new (new_at bs file tree) base (entries tree) q goes.0 i new in
                 let e : goes.0 ≡ text =
                 text_is goes.0 text (sym (ap (λ x. option_and_then string_in x) stands) ∙ now) in
                 let raised : upgrade_of old.0 v ≡ Text text =
@@ -217,13 +217,13 @@ dependents_admit t a p file tree after readable rising left =
         (all_then (λ e. IsWritten e.0) (λ e. is_below e.0 (path_member q) ≡ false)
         (λ e w. member_below e.0 q (key (codes "path")) (away e.0 w))
         es all) in
-        let kept : tree_without_below es tree (version_member q) ≡ tree (version_member q) =
+        let unchanged : tree_without_below es tree (version_member q) ≡ tree (version_member q) =
         emptied_other es tree (version_member q)
         (all_then (λ e. IsWritten e.0) (λ e. is_below e.0 (version_member q) ≡ false)
         (λ e w. member_below e.0 q (key (codes "version")) (away e.0 w))
         es all) in
         let Other : Place × List ℕ → Type 0 = λ e. same_place e.0 (version_member q) ≡ false in
-        let look : after (version_member q)
+        let lookup : after (version_member q)
         ≡ tree_with_strings (entry_edits (new_at bs file tree) (entries tree)) (tree_without_below es tree) (version_member q) =
         left (version_member q)
         ∙ (written_past shared (owns ++ reqs) (tree_without_below es tree) (version_member q)
@@ -245,7 +245,7 @@ dependents_admit t a p file tree after readable rising left =
         (option_and_then string_in x))) path) ∙ parts.next in
         λ can. at_entry bs file tree (tree_without_below es tree) q (after (version_member q)) f.text f.next like i
         leads
-        kept look now.said
+        unchanged lookup now.said
         (by_recursion (λ g. CanRise (upgrade_of g.text g.next)) (dependents bs file tree) rising)
         (next_at_is_version bs (target_folder file tree q) f.next
         (by_recursion (λ b. IsVersion b.next) bs readable) leads)

@@ -81,11 +81,11 @@ pub led_each : (bs : List Bump) (file : List ℕ) (qs : List PathDependency)
     ≡ map (λ (n : ℕ × Dependent). n.1) (filter_map (with_bump_index bs file) qs)
 led_each bs file qs = each qs
   where
-    kept : (o : Option (ℕ × Dependent)) (ns : List (ℕ × Dependent))
+    appended : (o : Option (ℕ × Dependent)) (ns : List (ℕ × Dependent))
         → cons_option (option_map (λ (n : ℕ × Dependent). n.1) o) (map (λ (n : ℕ × Dependent). n.1) ns)
         ≡ map (λ (n : ℕ × Dependent). n.1) (cons_option o ns)
-    kept None ns = refl
-    kept (Some n) ns = refl
+    appended None ns = refl
+    appended (Some n) ns = refl
 
     each : (qs : List PathDependency)
         → filter_map (dependent_by_path bs file) qs ≡ map (λ (n : ℕ × Dependent). n.1) (filter_map (with_bump_index bs file) qs)
@@ -94,7 +94,7 @@ led_each bs file qs = each qs
         ap (λ (fs : List Dependent). cons_option (dependent_by_path bs file q) fs) (each qs)
         ∙ ap (λ o. cons_option o (map (λ (n : ℕ × Dependent). n.1) (filter_map (with_bump_index bs file) qs)))
         (led_numbered bs file q)
-        ∙ kept (with_bump_index bs file q) (filter_map (with_bump_index bs file) qs)
+        ∙ appended (with_bump_index bs file q) (filter_map (with_bump_index bs file) qs)
 
 -- all of a manifest without their numbers
 pub dependents_numbered : (bs : List Bump) (file : List ℕ) (t : Tree)

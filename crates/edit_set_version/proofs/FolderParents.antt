@@ -12,37 +12,37 @@ use Rattle.edit_set_version.proofs.GroupedBumps.{middle}
 use Rattle.edit_set_version.proofs.ReachedFolders.{HasNoSlash, IsFolderName, after, is_slash, normal_text, parts_free}
 
 -- a name that a walk keeps
-abbrev pub IsKept : List ℕ → Type 0
-IsKept name =
+abbrev pub IsNormalName : List ℕ → Type 0
+IsNormalName name =
     IsFolderName name × ((same_bytes name (codes ".") ≡ false) × (same_bytes name (codes "..") ≡ false))
 
 -- ---- what a walk keeps
 
-above_kept : (folder : Folder) → AllByRecursion IsKept folder → AllByRecursion IsKept (parent_folder folder)
-above_kept [] h = tt
-above_kept (n ∷ ns) h = h.1
+above_normal : (folder : Folder) → AllByRecursion IsNormalName folder → AllByRecursion IsNormalName (parent_folder folder)
+above_normal [] h = tt
+above_normal (n ∷ ns) h = h.1
 
 -- one part further, by the three tests
-further_kept : (folder : Folder) (part : List ℕ) (a b c : Bool) → same_bytes part [] ≡ a
+further_normal : (folder : Folder) (part : List ℕ) (a b c : Bool) → same_bytes part [] ≡ a
     → same_bytes part (codes ".") ≡ b → same_bytes part (codes "..") ≡ c
-    → AllByRecursion IsKept folder → HasNoSlash part
-    → AllByRecursion IsKept (cond (a || b) folder (cond c (parent_folder folder) (part ∷ folder)))
-further_kept folder part true b c ea eb ec h free = h
-further_kept folder part false true c ea eb ec h free = h
-further_kept folder part false false true ea eb ec h free = above_kept folder h
-further_kept folder part false false false ea eb ec h free = (((free, ea), (eb, ec)), h)
+    → AllByRecursion IsNormalName folder → HasNoSlash part
+    → AllByRecursion IsNormalName (cond (a || b) folder (cond c (parent_folder folder) (part ∷ folder)))
+further_normal folder part true b c ea eb ec h free = h
+further_normal folder part false true c ea eb ec h free = h
+further_normal folder part false false true ea eb ec h free = above_normal folder h
+further_normal folder part false false false ea eb ec h free = (((free, ea), (eb, ec)), h)
 
-along_kept : (folder : Folder) (parts : List (List ℕ)) → AllByRecursion IsKept folder
-    → AllByRecursion HasNoSlash parts → AllByRecursion IsKept (folder_along folder parts)
-along_kept folder [] h free = h
-along_kept folder (p ∷ ps) h free =
-    along_kept (folder_after folder p) ps
-    (further_kept folder p (same_bytes p []) (same_bytes p (codes ".")) (same_bytes p (codes "..")) refl refl
+along_normal_names : (folder : Folder) (parts : List (List ℕ)) → AllByRecursion IsNormalName folder
+    → AllByRecursion HasNoSlash parts → AllByRecursion IsNormalName (folder_along folder parts)
+along_normal_names folder [] h free = h
+along_normal_names folder (p ∷ ps) h free =
+    along_normal_names (folder_after folder p) ps
+    (further_normal folder p (same_bytes p []) (same_bytes p (codes ".")) (same_bytes p (codes "..")) refl refl
     refl h free.0) free.1
 
 -- the names of the folder that a path names stay
-pub names_kept : (path : List ℕ) → AllByRecursion IsKept (folder_at_path path)
-names_kept path = along_kept [] (parts_of path) tt (parts_free path)
+pub names_normal : (path : List ℕ) → AllByRecursion IsNormalName (folder_at_path path)
+names_normal path = along_normal_names [] (parts_of path) tt (parts_free path)
 
 -- ---- the walk along a normal form
 
@@ -50,45 +50,45 @@ names_kept path = along_kept [] (parts_of path) tt (parts_free path)
 abbrev pub replace_backslashes : List (List ℕ) → List ℕ
 replace_backslashes names = flat_map (λ n. 47 ∷ n) names
 
-further_on : (folder : Folder) (name : List ℕ) → IsKept name → folder_after folder name ≡ name ∷ folder
-further_on folder name kept = rw (kept.0.1, kept.1.0, kept.1.1) refl
+further_on : (folder : Folder) (name : List ℕ) → IsNormalName name → folder_after folder name ≡ name ∷ folder
+further_on folder name are_normal = rw (are_normal.0.1, are_normal.1.0, are_normal.1.1) refl
 
 -- each of them is gone along
-along_on : (folder : Folder) (names : List (List ℕ)) → AllByRecursion IsKept names
+along_on : (folder : Folder) (names : List (List ℕ)) → AllByRecursion IsNormalName names
     → folder_along folder names ≡ reverse names ++ folder
-along_on folder [] kept = refl
-along_on folder (n ∷ ns) kept =
-    ap (λ f. folder_along f ns) (further_on folder n kept.0) ∙ along_on (n ∷ folder) ns kept.1
+along_on folder [] are_normal = refl
+along_on folder (n ∷ ns) are_normal =
+    ap (λ f. folder_along f ns) (further_on folder n are_normal.0) ∙ along_on (n ∷ folder) ns are_normal.1
     ∙ sym (ap (λ xs. xs ++ folder) (reverse-append (n ∷ []) ns) ∙ append_assoc (reverse ns) (n ∷ []) folder)
 
-kept_free : (names : List (List ℕ)) → AllByRecursion IsKept names → AllByRecursion HasNoSlash names
-kept_free [] kept = tt
-kept_free (n ∷ ns) kept = (kept.0.0.0, kept_free ns kept.1)
+normal_free : (names : List (List ℕ)) → AllByRecursion IsNormalName names → AllByRecursion HasNoSlash names
+normal_free [] are_normal = tt
+normal_free (n ∷ ns) are_normal = (are_normal.0.0.0, normal_free ns are_normal.1)
 
-kept_append : (xs ys : List (List ℕ)) → AllByRecursion IsKept xs → AllByRecursion IsKept ys
-    → AllByRecursion IsKept (xs ++ ys)
-kept_append [] ys a b = b
-kept_append (x ∷ xs) ys a b = (a.0, kept_append xs ys a.1 b)
+normal_append : (xs ys : List (List ℕ)) → AllByRecursion IsNormalName xs → AllByRecursion IsNormalName ys
+    → AllByRecursion IsNormalName (xs ++ ys)
+normal_append [] ys a b = b
+normal_append (x ∷ xs) ys a b = (a.0, normal_append xs ys a.1 b)
 
-kept_reversed : (xs : List (List ℕ)) → AllByRecursion IsKept xs → AllByRecursion IsKept (reverse xs)
-kept_reversed [] a = tt
-kept_reversed (x ∷ xs) a =
-    subst (AllByRecursion IsKept) (sym (reverse-append (x ∷ []) xs))
-    (kept_append (reverse xs) (x ∷ []) (kept_reversed xs a.1) (a.0, tt))
+normal_reversed : (xs : List (List ℕ)) → AllByRecursion IsNormalName xs → AllByRecursion IsNormalName (reverse xs)
+normal_reversed [] a = tt
+normal_reversed (x ∷ xs) a =
+    subst (AllByRecursion IsNormalName) (sym (reverse-append (x ∷ []) xs))
+    (normal_append (reverse xs) (x ∷ []) (normal_reversed xs a.1) (a.0, tt))
 
 -- the names of the path of names that stay
-names_absolute : (names : List (List ℕ)) → AllByRecursion IsKept names
+names_absolute : (names : List (List ℕ)) → AllByRecursion IsNormalName names
     → folder_at_path (absolute names) ≡ reverse names
-names_absolute [] kept = refl
-names_absolute (n ∷ ns) kept =
-    ap (folder_along []) (after [] (n ∷ ns) tt (kept_free (n ∷ ns) kept))
-    ∙ along_on [] (n ∷ ns) kept ∙ append-nil (reverse (n ∷ ns))
+names_absolute [] are_normal = refl
+names_absolute (n ∷ ns) are_normal =
+    ap (folder_along []) (after [] (n ∷ ns) tt (normal_free (n ∷ ns) are_normal))
+    ∙ along_on [] (n ∷ ns) are_normal ∙ append-nil (reverse (n ∷ ns))
 
 -- a folder is named by its text
-pub names_text : (folder : Folder) → AllByRecursion IsKept folder
+pub names_text : (folder : Folder) → AllByRecursion IsNormalName folder
     → folder_at_path (folder_text folder) ≡ folder
-names_text folder kept =
-    names_absolute (reverse folder) (kept_reversed folder kept) ∙ reverse-reverse folder
+names_text folder are_normal =
+    names_absolute (reverse folder) (normal_reversed folder are_normal) ∙ reverse-reverse folder
 
 -- ---- the text before the last slash
 
@@ -143,28 +143,28 @@ absolute_none [] none = refl
 absolute_none (n ∷ ns) none = cc none
 
 -- the folder of the text of a folder is that of the one above
-pub folder_above : (folder : Folder) (g : List ℕ) → AllByRecursion IsKept folder
+pub folder_above : (folder : Folder) (g : List ℕ) → AllByRecursion IsNormalName folder
     → IsFolderOf (folder_text folder) g → g ≡ folder_text (parent_folder folder)
-folder_above folder g kept is = by folder kept (folder_text folder) g refl is
+folder_above folder g are_normal is = by folder are_normal (folder_text folder) g refl is
   where
-    by : (f : Folder) → AllByRecursion IsKept f → (text g : List ℕ) → text ≡ folder_text f
+    by : (f : Folder) → AllByRecursion IsNormalName f → (text g : List ℕ) → text ≡ folder_text f
         → IsFolderOf text g → g ≡ folder_text (parent_folder f)
-    by [] kept text _ e (before b a is free some) =
+    by [] are_normal text _ e (before b a is free some) =
         let one : 47 ∷ [] ≡ b ++ 47 ∷ a = sym e ∙ is in
         let long = length-append b (47 ∷ a) in
         let same = ap length one in
         absurd (omega (arith, long, same, some))
-    by [] kept text _ e (below_root a is free) = refl
-    by [] kept text _ e (bare free) = refl
-    by (n ∷ f) kept text _ e (before b a is free some) =
+    by [] are_normal text _ e (below_root a is free) = refl
+    by [] are_normal text _ e (bare free) = refl
+    by (n ∷ f) are_normal text _ e (before b a is free some) =
         let last = e ∙ ap absolute (reverse-append (n ∷ []) f) ∙ absolute_more (reverse f) n in
-        let same = before_last b a (replace_backslashes (reverse f)) n free kept.0.0.0 (sym is ∙ last) in
+        let same = before_last b a (replace_backslashes (reverse f)) n free are_normal.0.0.0 (sym is ∙ last) in
         same ∙ sym (absolute_some (reverse f) (subst (λ x. 0 < length x) same some))
-    by (n ∷ f) kept text _ e (below_root a is free) =
+    by (n ∷ f) are_normal text _ e (below_root a is free) =
         let last = e ∙ ap absolute (reverse-append (n ∷ []) f) ∙ absolute_more (reverse f) n in
-        let same = before_last [] a (replace_backslashes (reverse f)) n free kept.0.0.0 (sym is ∙ last) in
+        let same = before_last [] a (replace_backslashes (reverse f)) n free are_normal.0.0.0 (sym is ∙ last) in
         sym (absolute_none (reverse f) same)
-    by (n ∷ f) kept text _ e (bare free) =
+    by (n ∷ f) are_normal text _ e (bare free) =
         let last = e ∙ ap absolute (reverse-append (n ∷ []) f) ∙ absolute_more (reverse f) n in
         absurd (slash_inside text (replace_backslashes (reverse f)) n free last)
 
@@ -173,6 +173,6 @@ pub folder_named : (path normal g : List ℕ) → IsNormalOf path normal → IsF
     → g ≡ folder_text (folder_of normal)
 folder_named path normal g is folder =
     let text = normal_text path normal is in
-    let kept = names_kept path in
-    folder_above (folder_at_path path) g kept (subst (λ x. IsFolderOf x g) text folder)
-    ∙ ap (λ f. folder_text (parent_folder f)) (sym (names_text (folder_at_path path) kept) ∙ ap folder_at_path (sym text))
+    let are_normal = names_normal path in
+    folder_above (folder_at_path path) g are_normal (subst (λ x. IsFolderOf x g) text folder)
+    ∙ ap (λ f. folder_text (parent_folder f)) (sym (names_text (folder_at_path path) are_normal) ∙ ap folder_at_path (sym text))

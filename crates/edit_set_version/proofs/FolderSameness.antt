@@ -80,11 +80,11 @@ names_above file = subst (AllByRecursion IsFolderName) (way_up file) (named (fil
 -- ---- the first of a folder
 
 -- where one is there, it stays
-pub kept_first : {X : Type 0} (o : Option X) (s : Bool) (v : X) → (s ≡ true → is_some o ≡ true)
+pub first_option : {X : Type 0} (o : Option X) (s : Bool) (v : X) → (s ≡ true → is_some o ≡ true)
     → o ≡ option_or o (if s then Some v else None)
-kept_first (Some x) s v h = refl
-kept_first None true v h = let e = h refl in cc e
-kept_first None false v h = refl
+first_option (Some x) s v h = refl
+first_option None true v h = let e = h refl in cc e
+first_option None false v h = refl
 
 -- where none is there, one is put there
 pub put_first : {X Y : Type 0} (f : X → Y) (o : Option X) (s : Bool) (v : X) → (s ≡ true → is_some o ≡ false)

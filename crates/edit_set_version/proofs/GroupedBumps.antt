@@ -13,7 +13,7 @@ use Rattle.edit_set_version.specs.Dependents.{all_numbered, with_bump_index}
 use Rattle.edit_set_version.specs.BumpsByFolder.{first_in}
 use Rattle.edit_set_version.specs.PathDependency.{PathDependency, dependent_by_path, path_dependencies}
 use Rattle.edit_set_version.specs.SetVersioned.{Bump, Dependent, dependents, next_in}
-use Rattle.edit_set_version.specs.ToldLines.{dependent_number}
+use Rattle.edit_set_version.specs.LineViews.{dependent_number}
 use Rattle.edit_set_version.proofs.FolderSameness.{same_folder_is, same_folder_self}
 use Rattle.edit_set_version.proofs.PointedLemmas.{dependents_pointed}
 

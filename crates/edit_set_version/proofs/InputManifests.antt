@@ -15,7 +15,7 @@ use Rattle.edit_set_version.specs.Chosen.{Member}
 use Rattle.edit_set_version.specs.PlanLines.{Named, manifests}
 use Rattle.edit_set_version.specs.Projects.{AreInputsOf, IsManifestAmong, IsMemberOf, IsProject, IsTreeAt}
 use Rattle.edit_set_version.specs.SetVersioned.{Project}
-use Rattle.edit_set_version.specs.ToldLines.{named_member, other_manifests}
+use Rattle.edit_set_version.specs.LineViews.{named_member, other_manifests}
 use Rattle.edit_set_version.proofs.DistinctInputs.{distinct_each, same_input}
 use Rattle.edit_set_version.proofs.PlanLemmas.{manifest_lines_view}
 use Rattle.edit_set_version.proofs.ProjectRoot.{one_normal}
@@ -25,20 +25,20 @@ abbrev pub IsNamedAt : Project → List ℕ → Type 0
 IsNamedAt p path = (m : Named) × Contains (manifests p) m × (m.path ≡ path)
 
 -- the member whose manifest is that of an input
-member_at : (asked : RustOptions) (all : List Input) (ps : List PackageModel) (ms : List Member)
-    (js : List Input) → AllZip (IsInputOf asked) (map manifest_of ps) js → AllZip (IsMemberOf all) ps ms
+member_at : (options : RustOptions) (all : List Input) (ps : List PackageModel) (ms : List Member)
+    (js : List Input) → AllZip (IsInputOf options) (map manifest_of ps) js → AllZip (IsMemberOf all) ps ms
     → (i : Input) → Contains js i → (m : Member) × Contains ms m × (m.path ≡ path_of i)
-member_at asked all ps ms [] made are i there = absurd (omega (arith, there.1))
-member_at asked all [] ms (j ∷ js) made are i there = absurd made
-member_at asked all (p ∷ ps) [] (j ∷ js) made are i there = absurd are
-member_at asked all (p ∷ ps) (m ∷ ms) (j ∷ js) made are i (zero, within, is) = (
+member_at options all ps ms [] made are i there = absurd (omega (arith, there.1))
+member_at options all [] ms (j ∷ js) made are i there = absurd made
+member_at options all (p ∷ ps) [] (j ∷ js) made are i there = absurd are
+member_at options all (p ∷ ps) (m ∷ ms) (j ∷ js) made are i (zero, within, is) = (
   m,
   (zero, omega arith, refl),
   one_normal p.manifest_path m.path (path_of i) are.0.path
       (subst (λ (x : Input). IsNormalOf p.manifest_path (path_of x)) is made.0.path),
 )
-member_at asked all (p ∷ ps) (m ∷ ms) (j ∷ js) made are i (suc k, within, is) =
-    let later = member_at asked all ps ms js made.1 are.1 i (k, omega (arith, within), is) in
+member_at options all (p ∷ ps) (m ∷ ms) (j ∷ js) made are i (suc k, within, is) =
+    let later = member_at options all ps ms js made.1 are.1 i (k, omega (arith, within), is) in
     (later.0, (suc later.1.0, omega (arith, later.1.1), later.1.2), later.2)
 
 -- the manifest of a member is among those that are not the root's
@@ -77,24 +77,24 @@ named_at : (w : WorkspaceModel) (is : List Input) (p : Project) → AreInputsOf 
     → (i : Input) → Contains is i → IsNamedAt p (path_of i)
 named_at w is p are project i there = by (are.0) is are.1 there
   where
-    of_own : (asked : RustOptions) (js : List Input)
-        → AllZip (IsInputOf asked) (map manifest_of (members w.packages)) js → Contains js i
+    of_own : (options : RustOptions) (js : List Input)
+        → AllZip (IsInputOf options) (map manifest_of (members w.packages)) js → Contains js i
         → IsNamedAt p (path_of i)
-    of_own asked js made among =
+    of_own options js made among =
         named_of p (path_of i)
-        (member_at asked is (members w.packages) p.members js made project.members i among)
+        (member_at options is (members w.packages) p.members js made project.members i among)
 
-    by : (asked : RustOptions) (js : List Input) → AreInputs asked w js → Contains js i
+    by : (options : RustOptions) (js : List Input) → AreInputs options w js → Contains js i
         → IsNamedAt p (path_of i)
-    by asked _ (of_members root js made normal among) there = of_own asked js made there
-    by asked _ (with_root j js made root other) (zero, within, is) = (
+    by options _ (of_members root js made normal among) there = of_own options js made there
+    by options _ (with_root j js made root other) (zero, within, is) = (
       record { name = codes "workspace"; path = p.path; tree = p.tree },
       (zero, omega arith, refl),
       one_normal (root_manifest w).path p.path (path_of i) project.path
           (subst (λ (x : Input). IsNormalOf (root_manifest w).path (path_of x)) is root.path),
     )
-    by asked _ (with_root j js made root other) (suc k, within, is) =
-        of_own asked js made (k, omega (arith, within), is)
+    by options _ (with_root j js made root other) (suc k, within, is) =
+        of_own options js made (k, omega (arith, within), is)
 
 -- what holds of each element of a list holds of all
 all_each : {X : Type 0} (P : X → Type 0) (xs : List X) → ((x : X) → Contains xs x → P x) → All P xs

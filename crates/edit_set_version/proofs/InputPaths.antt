@@ -19,32 +19,32 @@ use Rattle.edit_set_version.proofs.FolderParents.{folder_named}
 use Rattle.edit_set_version.proofs.ProjectRoot.{one_normal}
 
 -- the text of an input's folder
-abbrev pub folder_told : Input → List ℕ
-folder_told i = folder_text (folder_of (path_of i))
+abbrev pub folder_text_of : Input → List ℕ
+folder_text_of i = folder_text (folder_of (path_of i))
 
 -- the folders of manifests are those of their inputs
-folders_made : (asked : RustOptions) (ps : List PackageModel) (folders : List (List ℕ)) (is : List Input)
+folders_made : (options : RustOptions) (ps : List PackageModel) (folders : List (List ℕ)) (is : List Input)
     → AllZip IsManifestFolder (map (λ (p : PackageModel). p.manifest_path) ps) folders
-    → AllZip (IsInputOf asked) (map manifest_of ps) is → folders ≡ map folder_told is
-folders_made asked [] [] [] stand made = refl
-folders_made asked [] [] (i ∷ is) stand made = absurd made
-folders_made asked [] (f ∷ fs) is stand made = absurd stand
-folders_made asked (p ∷ ps) [] is stand made = absurd stand
-folders_made asked (p ∷ ps) (f ∷ fs) [] stand made = absurd made
-folders_made asked (p ∷ ps) (f ∷ fs) (i ∷ is) stand made =
+    → AllZip (IsInputOf options) (map manifest_of ps) is → folders ≡ map folder_text_of is
+folders_made options [] [] [] stand made = refl
+folders_made options [] [] (i ∷ is) stand made = absurd made
+folders_made options [] (f ∷ fs) is stand made = absurd stand
+folders_made options (p ∷ ps) [] is stand made = absurd stand
+folders_made options (p ∷ ps) (f ∷ fs) [] stand made = absurd made
+folders_made options (p ∷ ps) (f ∷ fs) (i ∷ is) stand made =
     let same = one_normal p.manifest_path stand.0.normal (path_of i) stand.0.is_normal made.0.path in
-    let own : f ≡ folder_told i
+    let own : f ≡ folder_text_of i
     = folder_named p.manifest_path stand.0.normal f stand.0.is_normal stand.0.above
     ∙ ap (λ x. folder_text (folder_of x)) same in
-    ap (λ x. x ∷ fs) own ∙ ap (λ xs. folder_told i ∷ xs) (folders_made asked ps fs is stand.1 made.1)
+    ap (λ x. x ∷ fs) own ∙ ap (λ xs. folder_text_of i ∷ xs) (folders_made options ps fs is stand.1 made.1)
 
 -- inputs whose folders differ have other paths
-paths_apart : (is : List Input) → AllPairs (λ (a b : List ℕ). a ≢ b) (map folder_told is)
+paths_apart : (is : List Input) → AllPairs (λ (a b : List ℕ). a ≢ b) (map folder_text_of is)
     → HaveOwnPaths is
 paths_apart is apart = λ i j d lt within same.
-    apart i j (folder_told d) lt (omega (arith, within, length-map is folder_told))
-    (get_or-map folder_told is i d ∙ ap (λ x. folder_text (folder_of x)) same
-    ∙ sym (get_or-map folder_told is j d))
+    apart i j (folder_text_of d) lt (omega (arith, within, length-map is folder_text_of))
+    (get_or-map folder_text_of is i d ∙ ap (λ x. folder_text (folder_of x)) same
+    ∙ sym (get_or-map folder_text_of is j d))
 
 -- a path that is not among those of inputs differs from each
 none_among : (is : List Input) (path : List ℕ) → (Contains (input_paths is) path → ⊥)
@@ -59,15 +59,15 @@ pub inputs_apart : (w : WorkspaceModel) (is : List Input) → HasOwnFolders w �
     → HaveOwnPaths is
 inputs_apart w is own are = by (are.0) is are.1
   where
-    of_own : (asked : RustOptions) (js : List Input)
-        → AllZip (IsInputOf asked) (map manifest_of (members w.packages)) js → HaveOwnPaths js
-    of_own asked js made =
+    of_own : (options : RustOptions) (js : List Input)
+        → AllZip (IsInputOf options) (map manifest_of (members w.packages)) js → HaveOwnPaths js
+    of_own options js made =
         paths_apart js
         (subst (AllPairs (λ (a b : List ℕ). a ≢ b))
-        (folders_made asked (members w.packages) own.folders js own.stand made) own.apart)
+        (folders_made options (members w.packages) own.folders js own.stand made) own.apart)
 
-    by : (asked : RustOptions) (js : List Input) → AreInputs asked w js → HaveOwnPaths js
-    by asked _ (of_members root js made normal among) = of_own asked js made
-    by asked _ (with_root j js made root other) =
+    by : (options : RustOptions) (js : List Input) → AreInputs options w js → HaveOwnPaths js
+    by options _ (of_members root js made normal among) = of_own options js made
+    by options _ (with_root j js made root other) =
         AllPairs-cons (λ (a b : Input). path_of a ≢ path_of b) j js (none_among js (path_of j) other)
-        (of_own asked js made)
+        (of_own options js made)

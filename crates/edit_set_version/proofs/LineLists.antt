@@ -10,7 +10,7 @@ use Rattle.std.specs.Prelude.{String}
 use Rattle.std.specs.declared.alloc.Global.{Global}
 use Rattle.edit_set_version.specs.PlanLines.{ReportLine}
 use Rattle.edit_set_version.specs.SetVersioned.{Dependent}
-use Rattle.edit_set_version.specs.ToldLines.{dependent_number, report_line_view, line_lists_view, update_line_view, update_lines_view, with_line, with_updates}
+use Rattle.edit_set_version.specs.LineViews.{dependent_number, report_line_view, line_lists_view, update_line_view, update_lines_view, with_line, with_updates}
 
 -- the lines of requirements in two parts
 updates_append : (name : List ℕ) (xs ys : List (ℕ × Dependent)) (n : ℕ)
@@ -48,33 +48,33 @@ other_number m n less = elim (cases_Bool (m == n)) [
 ]
 
 -- a requirement that stays has no line
-pub stays_untold : (name : List ℕ) (m : ℕ) (f : Dependent) (n : ℕ) (ls : List (List ReportLine))
+pub stays_unlisted : (name : List ℕ) (m : ℕ) (f : Dependent) (n : ℕ) (ls : List (List ReportLine))
     → update_line_view name f ≡ None → with_updates name ((m, f) ∷ []) n ls ≡ ls
-stays_untold name m f n [] none = refl
-stays_untold name m f n (l ∷ ls) none = elim (cases_Bool (m == n)) [
-  | inl same ↦ rw (same, none) (ap₂ (λ x xs. x ∷ xs) (append-nil l) (stays_untold name m f (suc n) ls none))
-  | inr other ↦ rw other (ap₂ (λ x xs. x ∷ xs) (append-nil l) (stays_untold name m f (suc n) ls none))
+stays_unlisted name m f n [] none = refl
+stays_unlisted name m f n (l ∷ ls) none = elim (cases_Bool (m == n)) [
+  | inl same ↦ rw (same, none) (ap₂ (λ x xs. x ∷ xs) (append-nil l) (stays_unlisted name m f (suc n) ls none))
+  | inr other ↦ rw other (ap₂ (λ x xs. x ∷ xs) (append-nil l) (stays_unlisted name m f (suc n) ls none))
 ]
 
 -- nor to later lists
-past_untold : (name : List ℕ) (m : ℕ) (f : Dependent) (n : ℕ) (ls : List (List ReportLine)) → m < n
+past_unlisted : (name : List ℕ) (m : ℕ) (f : Dependent) (n : ℕ) (ls : List (List ReportLine)) → m < n
     → with_updates name ((m, f) ∷ []) n ls ≡ ls
-past_untold name m f n [] less = refl
-past_untold name m f n (l ∷ ls) less =
+past_unlisted name m f n [] less = refl
+past_unlisted name m f n (l ∷ ls) less =
     rw (other_number m n less) (ap₂ (λ x xs. x ∷ xs) (append-nil l)
-    (past_untold name m f (suc n) ls (omega (arith, less))))
+    (past_unlisted name m f (suc n) ls (omega (arith, less))))
 
 -- one that becomes another text has one line
-pub rise_told : (name : List ℕ) (m k n : ℕ) (f : Dependent) (line : ReportLine) (ls : List (List ReportLine))
+pub rise_listed : (name : List ℕ) (m k n : ℕ) (f : Dependent) (line : ReportLine) (ls : List (List ReportLine))
     → m ≡ k + n → update_line_view name f ≡ Some line
     → with_updates name ((m, f) ∷ []) n ls ≡ with_line k line ls
-rise_told name m k n f line [] at is = refl
-rise_told name m zero n f line (l ∷ ls) at is =
+rise_listed name m k n f line [] at is = refl
+rise_listed name m zero n f line (l ∷ ls) at is =
     rw (eq-eqb m n (omega (arith, at)), is) (ap (λ xs. (l ++ line ∷ []) ∷ xs)
-    (past_untold name m f (suc n) ls (omega (arith, at))))
-rise_told name m (suc k) n f line (l ∷ ls) at is =
+    (past_unlisted name m f (suc n) ls (omega (arith, at))))
+rise_listed name m (suc k) n f line (l ∷ ls) at is =
     rw later (ap₂ (λ x xs. x ∷ xs) (append-nil l)
-    (rise_told name m k (suc n) f line ls (omega (arith, at)) is))
+    (rise_listed name m k (suc n) f line ls (omega (arith, at)) is))
   where
     later : (m == n) ≡ false
     later = elim (cases_Bool (m == n)) [

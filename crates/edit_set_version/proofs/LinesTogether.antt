@@ -5,7 +5,7 @@ use Rattle.std.proofs.lemmas.List.{append_assoc}
 use Rattle.edit_set_version.specs.Dependents.{all_numbered}
 use Rattle.edit_set_version.specs.PlanLines.{Named, ReportLine, lines_of, manifests, updates}
 use Rattle.edit_set_version.specs.SetVersioned.{Bump, Project, dependents}
-use Rattle.edit_set_version.specs.ToldLines.{bump_line_view, dependent_number, manifest_lines_view, update_line_view, update_lines_view, with_manifests}
+use Rattle.edit_set_version.specs.LineViews.{bump_line_view, dependent_number, manifest_lines_view, update_line_view, update_lines_view, with_manifests}
 use Rattle.edit_set_version.proofs.GroupedBumps.{alone_dependents}
 use Rattle.edit_set_version.specs.Apart.{AreApart}
 
@@ -22,13 +22,13 @@ updates_are all before b rest n is at apart m =
     ap (filter_map (update_line_view m.name)) (sym with_bump_index)
 
 -- the lines of all manifests
-told_are : (all before : List Bump) (b : Bump) (rest : List Bump) (n : ℕ) → all ≡ before ++ b ∷ rest
+lines_are : (all before : List Bump) (b : Bump) (rest : List Bump) (n : ℕ) → all ≡ before ++ b ∷ rest
     → n ≡ length before → AreApart all → (ms : List Named)
     → manifest_lines_view all ms n ≡ flat_map (updates b) ms
-told_are all before b rest n is at apart [] = refl
-told_are all before b rest n is at apart (m ∷ ms) =
+lines_are all before b rest n is at apart [] = refl
+lines_are all before b rest n is at apart (m ∷ ms) =
     ap (λ us. us ++ manifest_lines_view all ms n) (updates_are all before b rest n is at apart m)
-    ∙ ap (λ us. updates b m ++ us) (told_are all before b rest n is at apart ms)
+    ∙ ap (λ us. updates b m ++ us) (lines_are all before b rest n is at apart ms)
 
 -- the lists of bumps from a number on
 lists_are : (all : List Bump) (p : Project) (before rest : List Bump) (n : ℕ) → all ≡ before ++ rest
@@ -39,7 +39,7 @@ lists_are all p before (b ∷ rest) n is at apart =
     let long = length-append before (b ∷ []) in
     ap (λ us. (bump_line_view b ∷ us)
     ∷ with_manifests all (manifests p) (suc n) (map (λ (b : Bump). bump_line_view b ∷ []) rest))
-    (told_are all before b rest n is at apart (manifests p))
+    (lines_are all before b rest n is at apart (manifests p))
     ∙ ap (λ xs. lines_of p b ∷ xs) (lists_are all p (before ++ b ∷ []) rest (suc n)
     (is ∙ sym (append_assoc before (b ∷ []) rest)) (omega (arith, at, long)) apart)
 

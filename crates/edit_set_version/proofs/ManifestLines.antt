@@ -14,7 +14,7 @@ use Rattle.edit_set_version.specs.Dependents.{all_numbered}
 use Rattle.edit_set_version.specs.PlanCauses.{AllRiseIn, AreUnraised, IsUnraised}
 use Rattle.edit_set_version.specs.PlanLines.{Named, ReportLine}
 use Rattle.edit_set_version.specs.SetVersioned.{Bump}
-use Rattle.edit_set_version.specs.ToldLines.{manifest_lines_view, named_member, other_manifests, update_lines_view, with_manifests, with_more, with_updates}
+use Rattle.edit_set_version.specs.LineViews.{manifest_lines_view, named_member, other_manifests, update_lines_view, with_manifests, with_more, with_updates}
 use Rattle.edit_base.proofs.FirstCauseLemmas.{first_before, first_behind, split_at}
 
 -- lines in two parts
@@ -35,11 +35,11 @@ more_same f g same n (l ∷ ls) =
     ap (λ us. (l ++ us) ∷ with_more f (suc n) ls) (same n)
     ∙ ap (λ xs. (l ++ g n) ∷ xs) (more_same f g same (suc n) ls)
 
-told_append : (bs : List Bump) (xs ys : List Named) (n : ℕ)
+lines_append : (bs : List Bump) (xs ys : List Named) (n : ℕ)
     → manifest_lines_view bs (xs ++ ys) n ≡ manifest_lines_view bs xs n ++ manifest_lines_view bs ys n
-told_append bs [] ys n = refl
-told_append bs (x ∷ xs) ys n =
-    ap (λ us. update_lines_view x.name (all_numbered bs x.path x.tree) n ++ us) (told_append bs xs ys n)
+lines_append bs [] ys n = refl
+lines_append bs (x ∷ xs) ys n =
+    ap (λ us. update_lines_view x.name (all_numbered bs x.path x.tree) n ++ us) (lines_append bs xs ys n)
     ∙ sym (append_assoc (update_lines_view x.name (all_numbered bs x.path x.tree) n) (manifest_lines_view bs xs n)
     (manifest_lines_view bs ys n))
 
@@ -48,7 +48,7 @@ pub manifests_in_parts : (bs : List Bump) (xs ys : List Named) (n : ℕ) (ls : L
     → with_manifests bs (xs ++ ys) n ls ≡ with_manifests bs ys n (with_manifests bs xs n ls)
 manifests_in_parts bs xs ys n ls =
     more_in_parts (manifest_lines_view bs xs) (manifest_lines_view bs ys) (manifest_lines_view bs (xs ++ ys))
-    (told_append bs xs ys) n ls
+    (lines_append bs xs ys) n ls
 
 -- one manifest
 pub one_manifest : (bs : List Bump) (m : Named) (n : ℕ) (ls : List (List ReportLine))

@@ -57,12 +57,12 @@ among_more names name q =
     ∙ either (is_among names q) (bytes_eq name q)
 
 -- a name that is left where a test passes it
-kept_by : (p : List ℕ → Bool) (x : List ℕ) (b s : Bool) → p x ≡ not s
+filter_one : (p : List ℕ → Bool) (x : List ℕ) (b s : Bool) → p x ≡ not s
     → filter p (if b then [] else x ∷ []) ≡ (if s || b then [] else x ∷ [])
-kept_by p x true true h = refl
-kept_by p x true false h = refl
-kept_by p x false true h = ap (λ c. cond c (x ∷ []) []) h
-kept_by p x false false h = ap (λ c. cond c (x ∷ []) []) h
+filter_one p x true true h = refl
+filter_one p x true false h = refl
+filter_one p x false true h = ap (λ c. cond c (x ∷ []) []) h
+filter_one p x false false h = ap (λ c. cond c (x ∷ []) []) h
 
 -- each once, with one name more
 once_more : (names : List (List ℕ)) (x : List ℕ)
@@ -74,7 +74,7 @@ once_more (y ∷ ys) x =
     ∙ ap (λ (zs : List (List ℕ)). y ∷ zs)
     (filter-append test (each_once ys) (if is_among ys x then [] else x ∷ []))
     ∙ ap (λ (zs : List (List ℕ)). y ∷ (filter test (each_once ys) ++ zs))
-    (kept_by test x (is_among ys x) (same_bytes x y)
+    (filter_one test x (is_among ys x) (same_bytes x y)
     (ap not (swapped y x ∙ same_texts x y)))
 
 -- those that are not there, with one name more
@@ -86,7 +86,7 @@ absent_more there names x =
     ap (filter test) (once_more names x)
     ∙ filter-append test (each_once names) (if is_among names x then [] else x ∷ [])
     ∙ ap (λ (zs : List (List ℕ)). names_not_among there names ++ zs)
-    (kept_by test x (is_among names x) (is_among there x) refl)
+    (filter_one test x (is_among names x) (is_among there x) refl)
 
 -- ---- one package more
 
@@ -113,15 +113,15 @@ names_more ps i p within is =
     (members (package_view p ∷ []))
 
 -- a list that is found empty, and one that is found not to be
-pub told_none : {A : Type 0} (xs : List A) (n : ℕ) (b : Bool) → b ≡ true → b ≡ (n == 0) → length xs ≡ n
+pub found_empty : {A : Type 0} (xs : List A) (n : ℕ) (b : Bool) → b ≡ true → b ≡ (n == 0) → length xs ≡ n
     → xs ≡ []
-told_none [] n b t e l = refl
-told_none (x ∷ xs) n b t e l = let z : n ≡ 0 = eqb-true n 0 (sym e ∙ t) in cc (l ∙ z)
+found_empty [] n b t e l = refl
+found_empty (x ∷ xs) n b t e l = let z : n ≡ 0 = eqb-true n 0 (sym e ∙ t) in cc (l ∙ z)
 
-pub told_some : {A : Type 0} (xs : List A) (n : ℕ) (b : Bool) → b ≡ false → b ≡ (n == 0) → length xs ≡ n
+pub found_some : {A : Type 0} (xs : List A) (n : ℕ) (b : Bool) → b ≡ false → b ≡ (n == 0) → length xs ≡ n
     → xs ≢ []
-told_some [] n b f e l none = true≢false (ap (λ m. m == 0) l ∙ sym e ∙ f)
-told_some (x ∷ xs) n b f e l none = cc
+found_some [] n b f e l none = true≢false (ap (λ m. m == 0) l ∙ sym e ∙ f)
+found_some (x ∷ xs) n b f e l none = cc
 
 -- nothing comes of nothing alone
 pub unmapped : {A B : Type 0} (f : A → B) (xs : List A) → map f xs ≡ [] → xs ≡ []

@@ -156,12 +156,12 @@ tells_beside bs numbers file tells =
     subst (λ folder. numbered_at numbers folder ≡ first_in bs folder) (way_up file) (tells (file ++ codes "/.."))
 
 -- the bump of the number that such a map has
-pub own_told : (file : List ℕ) (xs : List Bumping) (numbers : BTreeMap (String Global) Numbered Global)
-    (o : Option Numbered) (told : Numbered) → HasFirstBumps (bumps_view xs) numbers → AreApart (bumps_view xs)
-    → option_map numbered_view o ≡ numbered_at numbers (folder_of file) → o ≡ Some told
-    → IsOwnAt file xs told.number
-own_told file xs numbers o told tells apart is some =
-    own_first file xs told.number (parts_of told.next.now) apart
+pub own_numbered : (file : List ℕ) (xs : List Bumping) (numbers : BTreeMap (String Global) Numbered Global)
+    (o : Option Numbered) (numbered : Numbered) → HasFirstBumps (bumps_view xs) numbers → AreApart (bumps_view xs)
+    → option_map numbered_view o ≡ numbered_at numbers (folder_of file) → o ≡ Some numbered
+    → IsOwnAt file xs numbered.number
+own_numbered file xs numbers o numbered tells apart is some =
+    own_first file xs numbered.number (parts_of numbered.next.now) apart
     (sym (tells_beside (bumps_view xs) numbers file tells) ∙ sym is ∙ ap (option_map numbered_view) some)
 
 -- ---- what is written

@@ -32,23 +32,23 @@ use Rattle.edit_set_version.proofs.DependentLaw.{dependents_admit}
 -- ---- the members of a project, by their packages
 
 -- members have the names of their packages
-pub names_told : (is : List Input) (ps : List PackageModel) (ms : List Member) → AllZip (IsMemberOf is) ps ms
+pub member_names_are : (is : List Input) (ps : List PackageModel) (ms : List Member) → AllZip (IsMemberOf is) ps ms
     → map (λ (m : Member). m.name) ms ≡ map (λ (p : PackageModel). p.name) ps
-names_told is [] [] are = refl
-names_told is [] (m ∷ ms) are = absurd are
-names_told is (p ∷ ps) [] are = absurd are
-names_told is (p ∷ ps) (m ∷ ms) are = ap₂ (λ x xs. x ∷ xs) are.0.name (names_told is ps ms are.1)
+member_names_are is [] [] are = refl
+member_names_are is [] (m ∷ ms) are = absurd are
+member_names_are is (p ∷ ps) [] are = absurd are
+member_names_are is (p ∷ ps) (m ∷ ms) are = ap₂ (λ x xs. x ∷ xs) are.0.name (member_names_are is ps ms are.1)
 
 -- and their versions
-readable_told : (is : List Input) (ps : List PackageModel) (ms : List Member) → AllZip (IsMemberOf is) ps ms
+members_readable : (is : List Input) (ps : List PackageModel) (ms : List Member) → AllZip (IsMemberOf is) ps ms
     → All (λ (p : PackageModel). IsReadable p.version) ps → All (λ (m : Member). IsReadable m.version) ms
-readable_told is [] [] are all = All-nil (λ (m : Member). IsReadable m.version)
-readable_told is [] (m ∷ ms) are all = absurd are
-readable_told is (p ∷ ps) [] are all = absurd are
-readable_told is (p ∷ ps) (m ∷ ms) are all =
+members_readable is [] [] are all = All-nil (λ (m : Member). IsReadable m.version)
+members_readable is [] (m ∷ ms) are all = absurd are
+members_readable is (p ∷ ps) [] are all = absurd are
+members_readable is (p ∷ ps) (m ∷ ms) are all =
     All-cons (λ (m : Member). IsReadable m.version) m ms
     (subst IsReadable (sym are.0.version) (All-head (λ (p : PackageModel). IsReadable p.version) p ps all))
-    (readable_told is ps ms are.1 (All-tail (λ (p : PackageModel). IsReadable p.version) p ps all))
+    (members_readable is ps ms are.1 (All-tail (λ (p : PackageModel). IsReadable p.version) p ps all))
 
 -- what holds of all members holds of those that are chosen
 pub all_chosen : (P : Member → Type 0) (a : SelectionView) (ms : List Member) → All P ms
@@ -67,17 +67,17 @@ pub readable_members : (w : WorkspaceModel) (is : List Input) (p : Project) → 
     → All (λ (q : PackageModel). IsReadable q.version) w.packages
     → All (λ (m : Member). IsReadable m.version) p.members
 readable_members w is p project all =
-    readable_told is (members w.packages) p.members project.members
+    members_readable is (members w.packages) p.members project.members
     (All-filter (λ (q : PackageModel). q.member) (λ (q : PackageModel). IsReadable q.version) w.packages all)
 
 -- the manifest of each member is that of an input
-trees_told : (is : List Input) (ps : List PackageModel) (ms : List Member) → AllZip (IsMemberOf is) ps ms
+member_trees : (is : List Input) (ps : List PackageModel) (ms : List Member) → AllZip (IsMemberOf is) ps ms
     → All (λ (m : Member). IsTreeAt is m.path m.tree) ms
-trees_told is [] [] are = All-nil (λ (m : Member). IsTreeAt is m.path m.tree)
-trees_told is [] (m ∷ ms) are = absurd are
-trees_told is (p ∷ ps) [] are = absurd are
-trees_told is (p ∷ ps) (m ∷ ms) are =
-    All-cons (λ (m : Member). IsTreeAt is m.path m.tree) m ms are.0.tree (trees_told is ps ms are.1)
+member_trees is [] [] are = All-nil (λ (m : Member). IsTreeAt is m.path m.tree)
+member_trees is [] (m ∷ ms) are = absurd are
+member_trees is (p ∷ ps) [] are = absurd are
+member_trees is (p ∷ ps) (m ∷ ms) are =
+    All-cons (λ (m : Member). IsTreeAt is m.path m.tree) m ms are.0.tree (member_trees is ps ms are.1)
 
 -- so is each manifest of a project
 pub manifest_lines_view : (w : WorkspaceModel) (is : List Input) (p : Project) → IsProject w is p
@@ -88,7 +88,7 @@ manifest_lines_view w is p project =
     (λ (m : Member). record { name = m.name; path = m.path; tree = m.tree })
     (filter (λ m. not (same_bytes m.path p.path)) p.members)
     (All-filter (λ m. not (same_bytes m.path p.path)) (λ (m : Member). IsTreeAt is m.path m.tree) p.members
-    (trees_told is (members w.packages) p.members project.members)))
+    (member_trees is (members w.packages) p.members project.members)))
 
 -- ---- versions, outputs and lines over equal values
 

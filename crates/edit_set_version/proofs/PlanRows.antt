@@ -43,8 +43,8 @@ other_file = refl
 -- ---- forms
 
 -- a key of one bare part
-abbrev pub word : List ℕ → Key
-word name = record { first = bare name; others = [] }
+abbrev pub bare_key : List ℕ → Key
+bare_key name = record { first = bare name; others = [] }
 
 -- lines of these statements
 abbrev pub lines_of : List Statement → Lines
@@ -53,7 +53,7 @@ lines_of (s ∷ ss) = more_lines (full_line [] s [] None) lf (lines_of ss)
 
 -- a text of these statements, one a line
 abbrev pub form : List Statement → Text
-form ss = record { marked = false; lines = lines_of ss }
+form ss = record { has_byte_order_mark = false; lines = lines_of ss }
 
 -- its tree
 abbrev pub tree : List Statement → Tree
@@ -61,18 +61,18 @@ tree ss = view_at (form ss)
 
 -- the header of the package
 abbrev pub package_head : Statement
-package_head = header [] (word (codes "package")) []
+package_head = header [] (bare_key (codes "package")) []
 
 -- ---- a crate, and one that depends on it by path
 
 -- an entry of another name than its crate, by path
 abbrev pub depends : Value
-depends = inline [] (member (word (codes "path")) [] [] (literal (codes "../a")) [] []
-    (last_member (word (codes "version")) [] [] (literal (codes "0.1")) []))
+depends = inline [] (member (bare_key (codes "path")) [] [] (literal (codes "../a")) [] []
+    (last_member (bare_key (codes "version")) [] [] (literal (codes "0.1")) []))
 
 -- the manifest that has it
 abbrev pub in_b : List Statement
-in_b = header [] (word (codes "dependencies")) [] ∷ pair (word (codes "x")) [] [] depends ∷ []
+in_b = header [] (bare_key (codes "dependencies")) [] ∷ pair (bare_key (codes "x")) [] [] depends ∷ []
 
 text_b : text (form in_b) ≡ codes "[dependencies]\nx={path='../a',version='0.1'}\n"
 text_b = refl
@@ -87,7 +87,7 @@ a = record {
   name = codes "a";
   version = zero_one;
   path = codes "/w/a/Cargo.toml";
-  tree = tree (package_head ∷ pair (word (codes "version")) [] [] (literal (codes "0.1.0")) ∷ []);
+  tree = tree (package_head ∷ pair (bare_key (codes "version")) [] [] (literal (codes "0.1.0")) ∷ []);
 }
 
 -- the one that depends on it

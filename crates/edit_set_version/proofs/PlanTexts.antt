@@ -14,7 +14,7 @@ use Rattle.edit_set_version.specs.Chosen.{SelectionView, Member}
 use Rattle.edit_set_version.specs.PlanLines.{lines}
 use Rattle.edit_set_version.specs.SetVersioned.{Project, edits}
 use Rattle.edit_set_version.specs.declared.set_version.BumpLevel.TheVariants as level
-use Rattle.edit_set_version.proofs.PlanRows.{a, b, inherited, only_a, tree, two, word}
+use Rattle.edit_set_version.proofs.PlanRows.{a, b, inherited, only_a, tree, two, bare_key}
 
 -- ---- a crate that is bumped, and one that depends on it by path
 
@@ -30,11 +30,11 @@ unfolding semver_on_literals digits
 written_b = refl
 
 -- both are reported
-told_two : lines (by_level level.Minor) only_a two
+lines_of_two : lines (by_level level.Minor) only_a two
     ≡ (codes "Upgrading", codes "a from 0.1.0 to 0.2.0")
     ∷ (codes "Updating", codes "b's dependency from 0.1 to 0.2") ∷ []
 unfolding semver_on_literals digits
-told_two = refl
+lines_of_two = refl
 
 -- ---- a member that inherits its version
 
@@ -48,7 +48,7 @@ root =
     tree (header [] (record {
       first = bare (codes "workspace");
       others = record { before = []; behind = []; part = bare (codes "package") } ∷ [];
-    }) [] ∷ pair (word (codes "version")) [] [] (literal (codes "1.0.0")) ∷ [])
+    }) [] ∷ pair (bare_key (codes "version")) [] [] (literal (codes "1.0.0")) ∷ [])
 
 -- its one member, which inherits it
 abbrev heir : Member
@@ -74,8 +74,8 @@ unfolding semver_on_literals digits
 written_heir = refl
 
 -- both are reported
-told_one : lines (exactly (2, 0, 0, [], [])) everything one
+lines_of_one : lines (exactly (2, 0, 0, [], [])) everything one
     ≡ (codes "Upgrading", codes "workspace version from 1.0.0 to 2.0.0")
     ∷ (codes "Upgrading", codes "a from 1.0.0 to 2.0.0 (inherited from workspace)") ∷ []
 unfolding semver_on_literals digits
-told_one = refl
+lines_of_one = refl

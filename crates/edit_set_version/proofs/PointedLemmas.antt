@@ -66,12 +66,12 @@ named_led bs file t table name =
 -- ---- tables
 
 -- the members that give something, one by one
-members_kept : (f : Place → Option Dependent) (table : Place) (names : List (List ℕ))
+members_given : (f : Place → Option Dependent) (table : Place) (names : List (List ℕ))
     → flat_map (λ name. option_to_list (f (at table (key name)))) names
     ≡ filter_map f (map (λ name. at table (key name)) names)
-members_kept f table [] = refl
-members_kept f table (n ∷ ns) =
-    ap (λ (ys : List Dependent). option_to_list (f (at table (key n))) ++ ys) (members_kept f table ns)
+members_given f table [] = refl
+members_given f table (n ∷ ns) =
+    ap (λ (ys : List Dependent). option_to_list (f (at table (key n))) ++ ys) (members_given f table ns)
     ∙ cons_one (f (at table (key n))) (filter_map f (map (λ name. at table (key name)) ns))
 
 -- the entries of a table
@@ -83,7 +83,7 @@ table_led bs file t table =
     ∙ flat_same (λ name. filter_map (dependent_by_path bs file) (path_dependency_named t table name))
     (λ name. option_to_list (dependent bs file t (at table (key name)))) (named_led bs file t table)
     (member_names (t table))
-    ∙ members_kept (dependent bs file t) table (member_names (t table))
+    ∙ members_given (dependent bs file t) table (member_names (t table))
 
 -- those of a manifest
 pub dependents_pointed : (bs : List Bump) (file : List ℕ) (t : Tree)

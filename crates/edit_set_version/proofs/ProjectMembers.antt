@@ -20,18 +20,18 @@ abbrev pub inputs_of : List Crate → List Input
 inputs_of cs = map (λ (c : Crate). c.input.now) cs
 
 -- the packages of crates, as the metadata have them
-abbrev pub told_of : List Crate → List PackageModel
-told_of cs = map (λ (c : Crate). package_view c.told.now) cs
+abbrev pub packages_of : List Crate → List PackageModel
+packages_of cs = map (λ (c : Crate). package_view c.package.now) cs
 
 -- crates whose inputs are made of their manifests, and whose manifests are read of these, are the members of
 -- their packages
-pub members_stand : (asked : RustOptions) (all : List Input) (cs : List Crate)
-    → AllZip (IsInputOf asked) (map (λ (c : Crate). manifest_of (package_view c.told.now)) cs) (inputs_of cs)
+pub members_stand : (options : RustOptions) (all : List Input) (cs : List Crate)
+    → AllZip (IsInputOf options) (map (λ (c : Crate). manifest_of (package_view c.package.now)) cs) (inputs_of cs)
     → AllZip IsReadOf (inputs_of cs) (map (λ (c : Crate). c.manifest.now) cs)
     → ((i : Input) → Contains (inputs_of cs) i → Contains all i)
-    → AllZip (IsMemberOf all) (told_of cs) (members_of cs)
-members_stand asked all [] made read inside = tt
-members_stand asked all (c ∷ cs) made read inside = (
+    → AllZip (IsMemberOf all) (packages_of cs) (members_of cs)
+members_stand options all [] made read inside = tt
+members_stand options all (c ∷ cs) made read inside = (
   record {
     name = refl;
     version = refl;
@@ -45,26 +45,26 @@ members_stand asked all (c ∷ cs) made read inside = (
       is = read.0.shows;
     };
   },
-  members_stand asked all cs made.1 read.1
+  members_stand options all cs made.1 read.1
       (λ i there. inside i (suc there.0, omega (arith, there.1), there.2)),
 )
 
 -- the inputs of a workspace's members stand last
 pub record LastInputs (w : WorkspaceModel) (is : List Input) : Type 0 where
-  pub asked : RustOptions
+  pub options : RustOptions
   pub before : List Input
   pub own : List Input
   pub all : is ≡ before ++ own
-  pub made : AllZip (IsInputOf asked) (member_manifests w.packages) own
+  pub made : AllZip (IsInputOf options) (member_manifests w.packages) own
 
 pub last_inputs : (w : WorkspaceModel) (is : List Input) → AreInputsOf w is → LastInputs w is
 last_inputs w is are = by (are.0) is are.1
   where
-    by : (asked : RustOptions) (js : List Input) → AreInputs asked w js → LastInputs w js
-    by asked _ (of_members root js made normal among) =
-        record { asked = asked; before = []; own = js; all = refl; made = made }
-    by asked _ (with_root j js made root other) =
-        record { asked = asked; before = j ∷ []; own = js; all = refl; made = made }
+    by : (options : RustOptions) (js : List Input) → AreInputs options w js → LastInputs w js
+    by options _ (of_members root js made normal among) =
+        record { options = options; before = []; own = js; all = refl; made = made }
+    by options _ (with_root j js made root other) =
+        record { options = options; before = j ∷ []; own = js; all = refl; made = made }
 
 -- what is read of the last inputs
 pub read_last : (before own : List Input) (ms : List Manifest) → AllZip IsReadOf (before ++ own) ms
@@ -79,20 +79,20 @@ dropped [] own = refl
 dropped (x ∷ before) own = dropped before own
 
 -- the manifests of crates, as the metadata have them
-told_manifests : (cs : List Crate)
-    → map (λ (c : Crate). manifest_of (package_view c.told.now)) cs ≡ map manifest_of (told_of cs)
-told_manifests [] = refl
-told_manifests (c ∷ cs) = ap (λ ms. manifest_of (package_view c.told.now) ∷ ms) (told_manifests cs)
+package_manifests : (cs : List Crate)
+    → map (λ (c : Crate). manifest_of (package_view c.package.now)) cs ≡ map manifest_of (packages_of cs)
+package_manifests [] = refl
+package_manifests (c ∷ cs) = ap (λ ms. manifest_of (package_view c.package.now) ∷ ms) (package_manifests cs)
 
 -- the packages of crates, one by one
 pub read_item : (cs : List Crate) (ps : List (Bor Package))
-    → map (λ (c : Crate). c.told.now) cs ≡ map (λ p. p.now) ps
-    → told_of cs ≡ map (λ (p : Bor Package). package_view p.now) ps
+    → map (λ (c : Crate). c.package.now) cs ≡ map (λ p. p.now) ps
+    → packages_of cs ≡ map (λ (p : Bor Package). package_view p.now) ps
 read_item cs ps same = of_crates cs ∙ ap (map package_view) same ∙ of_packages ps
   where
-    of_crates : (xs : List Crate) → told_of xs ≡ map package_view (map (λ (c : Crate). c.told.now) xs)
+    of_crates : (xs : List Crate) → packages_of xs ≡ map package_view (map (λ (c : Crate). c.package.now) xs)
     of_crates [] = refl
-    of_crates (x ∷ xs) = ap (λ ys. package_view x.told.now ∷ ys) (of_crates xs)
+    of_crates (x ∷ xs) = ap (λ ys. package_view x.package.now ∷ ys) (of_crates xs)
 
     of_packages : (xs : List (Bor Package))
         → map package_view (map (λ (p : Bor Package). p.now) xs)
@@ -106,25 +106,25 @@ pub counted : (w : WorkspaceModel) (is : List Input) (last : LastInputs w is)
 counted w is last =
     ap length last.all ∙ length-append last.before last.own
     ∙ ap (λ k. length last.before + k)
-    (AllZip-long (IsInputOf last.asked) (member_manifests w.packages) last.own last.made
+    (AllZip-long (IsInputOf last.options) (member_manifests w.packages) last.own last.made
     ∙ length-map (members w.packages) manifest_of)
 
 -- crates that stand beside the last inputs of a workspace are its members
 pub members_last : (w : WorkspaceModel) (is : List Input) (ms : List Manifest) (cs : List Crate) (n : ℕ)
     (last : LastInputs w is) → AllZip IsReadOf is ms → n ≡ length last.before
-    → told_of cs ≡ members w.packages
+    → packages_of cs ≡ members w.packages
     → inputs_of cs ≡ drop n is → map (λ (c : Crate). c.manifest.now) cs ≡ drop n ms
     → AllZip (IsMemberOf is) (members w.packages) (members_of cs)
-members_last w is ms cs n last read long told ins mans =
+members_last w is ms cs n last read long package ins mans =
     let own : inputs_of cs ≡ last.own
     = ins ∙ ap (λ k. drop k is) long ∙ ap (drop (length last.before)) last.all
     ∙ dropped last.before last.own in
-    let named : map (λ (c : Crate). manifest_of (package_view c.told.now)) cs ≡ member_manifests w.packages
-    = told_manifests cs ∙ ap (map manifest_of) told in
-    subst (λ ps. AllZip (IsMemberOf is) ps (members_of cs)) told
-    (members_stand last.asked is cs
-    (subst (λ xs. AllZip (IsInputOf last.asked) xs (inputs_of cs)) (sym named)
-    (subst (AllZip (IsInputOf last.asked) (member_manifests w.packages)) (sym own) last.made))
+    let named : map (λ (c : Crate). manifest_of (package_view c.package.now)) cs ≡ member_manifests w.packages
+    = package_manifests cs ∙ ap (map manifest_of) package in
+    subst (λ ps. AllZip (IsMemberOf is) ps (members_of cs)) package
+    (members_stand last.options is cs
+    (subst (λ xs. AllZip (IsInputOf last.options) xs (inputs_of cs)) (sym named)
+    (subst (AllZip (IsInputOf last.options) (member_manifests w.packages)) (sym own) last.made))
     (subst (λ xs. AllZip IsReadOf xs (map (λ (c : Crate). c.manifest.now) cs)) (sym own)
     (subst (AllZip IsReadOf last.own) (sym (mans ∙ ap (λ k. drop k ms) long))
     (read_last last.before last.own ms (subst (λ xs. AllZip IsReadOf xs ms) last.all read))))

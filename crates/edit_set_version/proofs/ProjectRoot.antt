@@ -24,10 +24,10 @@ pub root_among : (w : WorkspaceModel) (is : List Input) (path : List ℕ) → Ar
     → IsNormalOf (root_manifest w).path path → Contains (input_paths is) path
 root_among w is path are normal = by (are.0) is are.1
   where
-    by : (asked : RustOptions) (js : List Input) → AreInputs asked w js → Contains (input_paths js) path
-    by asked _ (of_members root js made own among) =
+    by : (options : RustOptions) (js : List Input) → AreInputs options w js → Contains (input_paths js) path
+    by options _ (of_members root js made own among) =
         subst (Contains (input_paths js)) (one_normal (root_manifest w).path root path own normal) among
-    by asked _ (with_root j js made own other) =
+    by options _ (with_root j js made own other) =
         (zero, omega arith, one_normal (root_manifest w).path (string_bytes j.path) path own.path normal)
 
 -- inputs whose manifests were read are manifests

@@ -25,8 +25,8 @@ change_of current _ = To current
 -- build metadata, or out of memory
 abbrev pub IsUnbumped : Bumped → Parts → Error → Type 0
 IsUnbumped b current (error.Downgrade from to) =
-    (asked : Parts) × (b ≡ lower asked)
-    × (string_bytes from ≡ parts_text current) × (string_bytes to ≡ parts_text asked)
+    (next : Parts) × (b ≡ lower next)
+    × (string_bytes from ≡ parts_text current) × (string_bytes to ≡ parts_text next)
 IsUnbumped b current e = IsCause (change_of current b) current e
 
 -- the version that a change results in, or an error with its cause

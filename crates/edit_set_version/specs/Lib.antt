@@ -13,7 +13,7 @@ pub mod BumpsByFolder
 pub mod Dependents
 pub mod PathDependency
 pub mod PlanLines
-pub mod ToldLines
+pub mod LineViews
 pub mod Admitted
 pub mod PlanCauses
 pub mod Selections

@@ -28,8 +28,8 @@ member_names_text ms = join_by (λ name. name) (codes ", ") (map (λ m. m.name) 
 
 -- the error has each name that no member has, once
 abbrev pub IsMissing : List (List ℕ) → Error → Type 0
-IsMissing names (error.PackagesMissing told) =
-    (told.kind ≡ kind.Package) × (names ≢ []) × (map string_bytes told.names.items ≡ names)
+IsMissing names (error.PackagesMissing list) =
+    (list.kind ≡ kind.Package) × (names ≢ []) × (map string_bytes list.names.items ≡ names)
 IsMissing names _ = ⊥
 
 -- the error has the excluded members that inherit, and the selected ones that do

@@ -15,7 +15,7 @@ use Rattle.edit_set_version.specs.SetVersioned.{Project}
 
 -- the inputs are the manifests of the workspace, for any Rust version
 abbrev pub AreInputsOf : WorkspaceModel → List Input → Type 0
-AreInputsOf w inputs = (asked : RustOptions) × AreInputs asked w inputs
+AreInputsOf w inputs = (options : RustOptions) × AreInputs options w inputs
 
 -- the tree is that of the manifest at a path
 pub record IsTreeAt (inputs : List Input) (path : List ℕ) (tree : Tree) : Type 0 where

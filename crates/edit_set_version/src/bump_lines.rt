@@ -2,7 +2,7 @@
 ghost use Rattle.std.specs.Prelude.{◌≡◌, ◌∷◌, [], All, IfOk, OnOk, map};
 ghost use Rattle.edit_set_version.specs.Crates.{bumps_view};
 ghost use Rattle.edit_set_version.specs.Dependents.{HasRaisedText, numbered_dependent_view};
-ghost use Rattle.edit_set_version.specs.ToldLines.{bump_line_view, report_line_view, line_lists_view, with_line, with_updates};
+ghost use Rattle.edit_set_version.specs.LineViews.{bump_line_view, report_line_view, line_lists_view, with_line, with_updates};
 
 use crate::crates::Bump;
 use crate::dependents::DependentEntry;

@@ -60,7 +60,7 @@ fn bump_of<'a>(
         (selection_view selection.now).metadata (member_of found.entry).version) (member_of found.entry).version) }
 {
     let metadata = metadata_of(selection);
-    let next = target.bump(alloc, &found.told.version, metadata)?;
+    let next = target.bump(alloc, &found.package.version, metadata)?;
     match next {
         Some(next) => {
             has_numbers(&next);

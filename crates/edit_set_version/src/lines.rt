@@ -3,7 +3,7 @@ ghost use Rattle.std.specs.Prelude.{◌≡◌, [], IfOk, codes};
 ghost use Rattle.semver.specs.Identifiers.{parts_of};
 ghost use Rattle.edit_set_version.specs.Crates.{bump_view};
 ghost use Rattle.edit_set_version.specs.PlanLines.{note_of, updating_line, upgrading_line};
-ghost use Rattle.edit_set_version.specs.ToldLines.{report_line_view, note_if};
+ghost use Rattle.edit_set_version.specs.LineViews.{report_line_view, note_if};
 
 use crate::crates::Bump;
 use semver::Version;
@@ -58,9 +58,9 @@ pub(crate) fn bump_line(alloc: Global, bump: &Bump<'_>) -> Result<Line, AllocErr
     ensures ok { IfOk result (λ l. report_line_view l ≡ upgrading_line (bump_view bump.now).member.name
         (bump_view bump.now).member.version (bump_view bump.now).next (note_of (bump_view bump.now).member)) }
 {
-    let name = bump.member.told.name.as_str();
+    let name = bump.member.package.name.as_str();
     let note = note_of(bump.member.manifest.version_is_inherited());
-    upgrading_line(alloc, name, &bump.member.told.version, &bump.next, note)
+    upgrading_line(alloc, name, &bump.member.package.version, &bump.next, note)
 }
 
 /// The line of the workspace's bump.

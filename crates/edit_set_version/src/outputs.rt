@@ -71,10 +71,10 @@ fn own_bump<'a>(
         ≡ option_to_list (option_map (λ b. bump_view b.now) o)) }
     ensures error { IfErr result IsMemory }
 {
-    let Some(told) = bump_beside(alloc, writing.numbers, path)? else {
+    let Some(numbered) = bump_beside(alloc, writing.numbers, path)? else {
         return Ok(None);
     };
-    let bump = numbered_bump(writing.bumps, told.number);
+    let bump = numbered_bump(writing.bumps, numbered.number);
     if writes_own(bump, path) {
         return Ok(Some(bump));
     }

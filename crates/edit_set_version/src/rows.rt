@@ -8,7 +8,7 @@ ghost use Rattle.edit_set_version.specs.Crates.{bumps_view, project_view};
 ghost use Rattle.edit_set_version.specs.BumpsByFolder.{HasFirstBumps};
 ghost use Rattle.edit_set_version.specs.PlanCauses.{AllRiseIn, AreUnraised};
 ghost use Rattle.edit_set_version.specs.PlanLines.{lines_of, manifests, shared_lines};
-ghost use Rattle.edit_set_version.specs.ToldLines.{report_line_view, line_lists_view};
+ghost use Rattle.edit_set_version.specs.LineViews.{report_line_view, line_lists_view};
 
 use crate::crates::Bump;
 use crate::lines::{Line, workspace_line};

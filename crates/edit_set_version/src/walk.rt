@@ -8,7 +8,7 @@ ghost use Rattle.edit_set_version.specs.PlanCauses.{AllRiseIn, AreUnraised, IsUn
 ghost use Rattle.edit_set_version.specs.PlanLines.{manifests};
 ghost use Rattle.edit_metadata.specs.Inputs.{path_of};
 ghost use Rattle.edit_set_version.specs.SetVersioned.{Bump as Bumped};
-ghost use Rattle.edit_set_version.specs.ToldLines.{bump_line_view, line_lists_view, other_manifests, with_manifests};
+ghost use Rattle.edit_set_version.specs.LineViews.{bump_line_view, line_lists_view, other_manifests, with_manifests};
 ghost use Rattle.edit_tree.specs.DocumentViews.{tree_of};
 
 use crate::bump_lines::{bump_lists, push_updates};
@@ -69,7 +69,7 @@ fn push_member(
     push_manifest(
         alloc,
         numbers,
-        found.told.name.as_str(),
+        found.package.name.as_str(),
         found.input,
         found.manifest,
         lists,

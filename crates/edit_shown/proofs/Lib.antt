@@ -5,6 +5,6 @@ pub mod SummaryLemmas
 pub mod UnifiedLemmas
 pub mod LineLaws
 pub mod LineLemmas
-pub mod MarkLemmas
+pub mod LineKindLemmas
 pub mod FloatLemmas
 pub mod MarkdownLemmas

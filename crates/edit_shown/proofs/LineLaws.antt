@@ -8,7 +8,7 @@ use Rattle.std.proofs.lemmas.Bool.{cases_Bool, cond-false, cond-true}
 use Rattle.std.proofs.lemmas.List.{map-append}
 use Rattle.std.proofs.lemmas.List.Elements.{filter-append}
 use Rattle.std.proofs.lemmas.Slice.Eq.{bytes_eq-Decides}
-use Rattle.edit_shown.proofs.MarkLemmas.{pieces_more}
+use Rattle.edit_shown.proofs.LineKindLemmas.{pieces_more}
 use Rattle.edit_shown.specs.Lines.{lines_of, onto}
 use Rattle.edit_shown.specs.LineKinds.{DiffLine, lines_in, lines_with, compare_lines, compare_lines_at}
 use Rattle.edit_shown.specs.ShownLines.{is_new, is_old}

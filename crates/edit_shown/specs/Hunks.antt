@@ -22,7 +22,7 @@ note line = if ends_with_feed line then [] else codes "\n\\ No newline at end of
 
 -- a line after its character (POSIX, "diff", Diff -u)
 abbrev pub line_text : LineKind → List ℕ → List ℕ
-line_text mark line = sign mark ∷ (line ++ note line)
+line_text kind line = sign kind ∷ (line ++ note line)
 
 -- the number of the first line of a range; for an empty range that of the line before it (POSIX, "diff",
 -- Diff -u)
@@ -36,9 +36,9 @@ range_text before count =
     else decimal (first_number before count) ++ (codes "," ++ decimal count)
 
 -- the numbers of lines of the old and of the new text among lines (own)
-pub record AreCounted (marks : List LineKind) (old new : ℕ) : Type 0 where
-  pub old_lines : old ≡ count_by is_old marks
-  pub new_lines : new ≡ count_by is_new marks
+pub record AreCounted (kinds : List LineKind) (old new : ℕ) : Type 0 where
+  pub old_lines : old ≡ count_by is_old kinds
+  pub new_lines : new ≡ count_by is_new kinds
 
 -- the header of a hunk, from the numbers of old and new lines before it (POSIX, "diff", Diff -u)
 abbrev pub hunk_header_after : ℕ → ℕ → List LineKind → List ℕ
@@ -52,24 +52,24 @@ hunk_header_text before part = hunk_header_after (count_by is_old before) (count
 
 -- the header of the hunk that begins at a line: the hunk has all consecutive lines that are shown (own)
 abbrev pub hunk_header_at : List LineKind → ℕ → List ℕ
-hunk_header_at marks i =
-    hunk_header_text (take i marks) (take (leading (drop i (shown_lines marks))) (drop i marks))
+hunk_header_at kinds i =
+    hunk_header_text (take i kinds) (take (leading (drop i (shown_lines kinds))) (drop i kinds))
 
 -- whether a hunk begins at a line that is shown (own)
 abbrev pub begins : List LineKind → ℕ → Bool
-begins marks i = (i == 0) || not (is_shown marks (i - 1))
+begins kinds i = (i == 0) || not (is_shown kinds (i - 1))
 
 -- the header before a line that is shown, where a hunk begins there (own)
 abbrev pub hunk_header_before : List LineKind → ℕ → List ℕ
-hunk_header_before marks i = if begins marks i then hunk_header_at marks i else []
+hunk_header_before kinds i = if begins kinds i then hunk_header_at kinds i else []
 
 -- the text of a line in a diff, where it is shown (own)
 abbrev pub text_at : List LineKind → List (List ℕ) → ℕ → List ℕ
-text_at marks lines i =
-    if is_shown marks i
-    then hunk_header_before marks i ++ line_text (slice_index_or marks i Context) (slice_index_or lines i [])
+text_at kinds lines i =
+    if is_shown kinds i
+    then hunk_header_before kinds i ++ line_text (slice_index_or kinds i Context) (slice_index_or lines i [])
     else []
 
 -- the hunks of a diff (own)
 abbrev pub parts_text : List LineKind → List (List ℕ) → List ℕ
-parts_text marks lines = flat_map (text_at marks lines) (range_with_len 0 (length marks))
+parts_text kinds lines = flat_map (text_at kinds lines) (range_with_len 0 (length kinds))

@@ -24,11 +24,11 @@ is_new Added = true
 
 -- whether the line at an index is shown (own)
 abbrev pub is_shown : List LineKind → ℕ → Bool
-is_shown marks i = list_any is_change (slice_range marks (i - 3) (min (i + 4) (length marks)))
+is_shown kinds i = list_any is_change (slice_range kinds (i - 3) (min (i + 4) (length kinds)))
 
 -- whether each line is shown (own)
 abbrev pub shown_lines : List LineKind → List Bool
-shown_lines marks = map (is_shown marks) (range_with_len 0 (length marks))
+shown_lines kinds = map (is_shown kinds) (range_with_len 0 (length kinds))
 
 -- the number of leading lines that are shown (own)
 abbrev pub leading : List Bool → ℕ

@@ -19,16 +19,16 @@ use Rattle.edit_sources.specs.declared.config.Config.{Config}
 use Rattle.edit_sources.specs.declared.config.cache.ConfigCache.{ConfigCache}
 
 -- one folder more
-pub kept_more : (seen : StoreView) (old new : ConfigCache) (at : List ℕ) (found : Option Config)
+pub cached_more : (seen : StoreView) (old new : ConfigCache) (at : List ℕ) (found : Option Config)
     → ((place : List ℕ) → found_at new place ≡ update bytes_eq (found_at old) at (Some found) place)
     → AreCached seen old → (seen.tells ≡ true → IsReadOf (file_in seen.file_at at) found)
     → AreCached seen new
-kept_more seen old new at found updated kept read = λ tells place. subst
+cached_more seen old new at found updated are_cached read = λ tells place. subst
     (λ o. IfSome o (IsReadOf (file_in seen.file_at place))) (sym (updated place))
     (elim (cases_Bool (bytes_eq at place)) [
       | inl same ↦ rw same (subst (λ p. IsReadOf (file_in seen.file_at p) found)
           ((bytes_decides at place).0 same) (read tells))
-      | inr apart ↦ rw apart (kept tells place)
+      | inr apart ↦ rw apart (are_cached tells place)
     ])
 
 pub searched_more : (old new : ConfigCache) (at : List ℕ) (found : Option Config)
@@ -82,9 +82,9 @@ found_more cache places i place text old new within is said found items =
 -- what is cached after reads was the configuration of its folder before them
 cached_before : (old new : StoreView) (cache : ConfigCache) → OnlyReads old new → AreCached new cache
     → AreCached old cache
-cached_before old new cache reads kept = λ tells place. subst
+cached_before old new cache reads are_cached = λ tells place. subst
     (λ file. IfSome (found_at cache place) (IsReadOf file))
-    (file_in-same old.file_at new.file_at place reads.files) (kept (reads.tells ∙ tells) place)
+    (file_in-same old.file_at new.file_at place reads.files) (are_cached (reads.tells ∙ tells) place)
 
 one_read : (file : Option (List ℕ × List ℕ)) (found : Option (Option Config))
     (files : List (List ℕ × List ℕ)) (configs : List Config) → IfSome found (IsReadOf file) → IsSome found
@@ -99,20 +99,20 @@ one_read (Some f) (Some None) files configs read searched rest = absurd read
 all_read : (seen : StoreView) (cache : ConfigCache) (places : List (List ℕ)) → seen.tells ≡ true
     → AreCached seen cache → All (IsSearchedIn cache) places
     → AllZip IsReadFrom (files_in seen.file_at places) (found_in cache places)
-all_read seen cache [] tells kept searched = tt
-all_read seen cache (place ∷ places) tells kept searched =
+all_read seen cache [] tells are_cached searched = tt
+all_read seen cache (place ∷ places) tells are_cached searched =
     one_read (file_in seen.file_at place) (found_at cache place) (files_in seen.file_at places)
-    (found_in cache places) (kept tells place) (All-head (IsSearchedIn cache) place places searched)
-    (all_read seen cache places tells kept (All-tail (IsSearchedIn cache) place places searched))
+    (found_in cache places) (are_cached tells place) (All-head (IsSearchedIn cache) place places searched)
+    (all_read seen cache places tells are_cached (All-tail (IsSearchedIn cache) place places searched))
 
 -- the configurations that were found in folders are those of the files there
 pub found_read : (old new : StoreView) (cache : ConfigCache) (places : List (List ℕ)) (configs : List Config)
     → OnlyReads old new → AreCached new cache → All (IsSearchedIn cache) places
     → configs ≡ found_in cache places → old.tells ≡ true
     → AllZip IsReadFrom (files_in old.file_at places) configs
-found_read old new cache places configs reads kept searched found tells =
+found_read old new cache places configs reads are_cached searched found tells =
     subst (AllZip IsReadFrom (files_in old.file_at places)) (sym found)
-    (all_read old cache places tells (cached_before old new cache reads kept) searched)
+    (all_read old cache places tells (cached_before old new cache reads are_cached) searched)
 
 -- the configurations that were found in the folders of a manifest are its configurations
 pub found_configs : (old new : StoreView) (cache : ConfigCache) (manifest : List ℕ) (home : Option (List ℕ))
@@ -120,10 +120,10 @@ pub found_configs : (old new : StoreView) (cache : ConfigCache) (manifest : List
     → IsSearched manifest home (map string_bytes places) → All (IsSearchedIn cache) (map string_bytes places)
     → same ≡ places → configs ≡ found_in cache (map string_bytes same) → old.tells ≡ true
     → AreConfigs old.file_at manifest home configs
-found_configs old new cache manifest home places same configs reads kept folders searched is found tells = record {
+found_configs old new cache manifest home places same configs reads are_cached folders searched is found tells = record {
   places = map string_bytes places;
   searched = folders;
-  each = found_read old new cache (map string_bytes places) configs reads kept searched
+  each = found_read old new cache (map string_bytes places) configs reads are_cached searched
       (found ∙ ap (λ ps. found_in cache (map string_bytes ps)) is) tells;
 }
 

@@ -103,8 +103,8 @@ pub walk_meets : (configs : List Config) (registry : Option (List ℕ)) (key add
     (d : Definitions) (keys : List (List ℕ)) (s : said.Source)
     → IsWalk configs registry d keys s → s.replace_with ≡ Some key → end_at d key ≡ Some address
     → (n : ℕ) × Leads (all_definitions configs) address n s
-walk_meets configs registry key address d keys s w names kept =
-    let k = w.ends key address kept in (suc k.links, (key, names, (k.source, k.is, k.leads)))
+walk_meets configs registry key address d keys s w names ends_there =
+    let k = w.ends key address ends_there in (suc k.links, (key, names, (k.source, k.is, k.leads)))
 
 -- the URL of the registry
 pub walk_arrives : (configs : List Config) (registry : Option (List ℕ)) (address : List ℕ)
@@ -114,15 +114,15 @@ pub walk_arrives : (configs : List Config) (registry : Option (List ℕ)) (addre
 walk_arrives configs registry address d keys s w leads =
     arrives (all_definitions configs) registry address leads.0 (head_key registry ∷ keys) s w.reaches leads.1
 
-kept_end : (b : Bool) (o : Option (List ℕ)) (address a : List ℕ) → cond b (Some address) o ≡ Some a
+address_end : (b : Bool) (o : Option (List ℕ)) (address a : List ℕ) → cond b (Some address) o ≡ Some a
     → ((b ≡ true) × (address ≡ a)) ⊎ (o ≡ Some a)
-kept_end true o address a h = inl (refl, some_one address a h)
-kept_end false o address a h = inr h
+address_end true o address a h = inl (refl, some_one address a h)
+address_end false o address a h = inr h
 
-kept_none : (b : Bool) (o : Option (List ℕ)) (address : List ℕ) → cond b (Some address) o ≡ None
+address_none : (b : Bool) (o : Option (List ℕ)) (address : List ℕ) → cond b (Some address) o ≡ None
     → (b ≡ false) × (o ≡ None)
-kept_none true o address h = absurd (some_none address h)
-kept_none false o address h = (refl, h)
+address_none true o address h = absurd (some_none address h)
+address_none false o address h = (refl, h)
 
 -- the URL is stored for each key that was passed
 pub walk_keeps : (configs : List Config) (registry : Option (List ℕ)) (address : List ℕ)
@@ -131,15 +131,15 @@ pub walk_keeps : (configs : List Config) (registry : Option (List ℕ)) (address
     → new.left ≡ old.left
     → ((q : List ℕ) → end_at new q ≡ cond (is_used keys q) (Some address) (end_at old q))
     → Defines configs new
-walk_keeps configs registry address old new keys s w leads same kept =
+walk_keeps configs registry address old new keys s w leads same ends_there =
     let ds = all_definitions configs in
     record {
       ends = λ key a h. ⊎_elim
           (λ x. subst (LeadsTo ds key) x.1 (w.leads address leads.0 leads.1 key x.0))
           (λ x. w.ends key a x)
-          (kept_end (is_used keys key) (end_at old key) address a (sym (kept key) ∙ h));
+          (address_end (is_used keys key) (end_at old key) address a (sym (ends_there key) ∙ h));
       left = λ key h.
-          let x = kept_none (is_used keys key) (end_at old key) address (sym (kept key) ∙ h) in
+          let x = address_none (is_used keys key) (end_at old key) address (sym (ends_there key) ∙ h) in
           ap (λ m. found m key) same ∙ w.left key x.1 ∙ ap (λ b. cond b None (first key ds)) x.0;
     }
 
@@ -149,9 +149,9 @@ walk_keeps configs registry address old new keys s w leads same kept =
 pub head_arrives : (configs : List Config) (registry : Option (List ℕ)) (address : List ℕ)
     (d : Definitions) → Defines configs d → end_at d (head_key registry) ≡ Some address
     → Address (all_definitions configs) registry address
-head_arrives configs registry address d defines kept =
+head_arrives configs registry address d defines ends_there =
     let ds = all_definitions configs in
-    let k = defines.ends (head_key registry) address kept in
+    let k = defines.ends (head_key registry) address ends_there in
     let h = head_leads ds registry address k.links (first (head_key registry) ds) k.source k.is k.leads in
     arrives ds registry address k.links (head_key registry ∷ []) h.0 (head h.0 h.1) h.2
 
@@ -177,7 +177,7 @@ walk_fails configs registry key d o is defines unknown value got =
     let none = ap (head_source_of registry) (sym (ap (option_map source_texts) value
     ∙ ap (found d.left) is ∙ defines.left (head_key registry) unknown)) ∙ got in
     record {
-      asked = head_is registry (first (head_key registry) ds) none ∙ ap (λ k. Some k) (sym is);
+      names = head_is registry (first (head_key registry) ds) none ∙ ap (λ k. Some k) (sym is);
       undefined = none;
     }
 

@@ -96,28 +96,28 @@ around places i place text within is said =
     ∙ ap (λ t. map string_bytes (take i places) ++ t ∷ map string_bytes (drop (i + 1) places)) (sym said)
 
 -- a file that fails failed before more reads
-failed_before : (tells told : Bool) (old new : Files) (text : List ℕ) (e : Error) → told ≡ tells
-    → SameFiles old new → FileFails told (IsConfigPath text) (file_in new text) e
+failed_before : (tells new_tells : Bool) (old new : Files) (text : List ℕ) (e : Error) → new_tells ≡ tells
+    → SameFiles old new → FileFails new_tells (IsConfigPath text) (file_in new text) e
     → FileFails tells (IsConfigPath text) (file_in old text) e
-failed_before tells told old new text e same_told same fails = record {
+failed_before tells new_tells old new text e same_tells same fails = record {
   file = fails.file;
   at = fails.at;
-  stands = λ t. sym (file_in-same old new text same) ∙ fails.stands (same_told ∙ t);
+  stands = λ t. sym (file_in-same old new text same) ∙ fails.stands (same_tells ∙ t);
   unread = fails.unread;
 }
 
 -- a folder whose file fails
-pub place_fails : (tells told : Bool) (old new : Files) (places : List (String Global)) (i : ℕ)
+pub place_fails : (tells new_tells : Bool) (old new : Files) (places : List (String Global)) (i : ℕ)
     (place : String Global) (text : List ℕ) (e : Error)
-    → i < length places → place ≡ get_or places i place → text ≡ string_bytes place → told ≡ tells
-    → SameFiles old new → FileFails told (IsConfigPath text) (file_in new text) e
+    → i < length places → place ≡ get_or places i place → text ≡ string_bytes place → new_tells ≡ tells
+    → SameFiles old new → FileFails new_tells (IsConfigPath text) (file_in new text) e
     → PlaceFails tells old (map string_bytes places) e
-place_fails tells told old new places i place text e within is said same_told same fails = record {
+place_fails tells new_tells old new places i place text e within is said same_tells same fails = record {
   place = text;
   before = map string_bytes (take i places);
   after = map string_bytes (drop (i + 1) places);
   within = around places i place text within is said;
-  fails = failed_before tells told old new text e same_told same fails;
+  fails = failed_before tells new_tells old new text e same_tells same fails;
 }
 
 -- the first file that fails, behind places that are read

@@ -40,7 +40,7 @@ one_dir_outcome folder store address name (Ok None) (Ok None) tells x y = refl
 one_dir_outcome folder store address name (Ok None) (Ok (Some es)) tells x y =
     let h : None ≡ Some y.bytes = sym (x.absent tells) ∙ y.stands tells in cc
 one_dir_outcome folder store address name (Ok None) (Err n) tells x (inl why) = not_named name n x.named why
-one_dir_outcome folder store address name (Ok None) (Err n) tells x (inr (line, told, y)) =
+one_dir_outcome folder store address name (Ok None) (Err n) tells x (inr (line, tells_read, y)) =
     let h : None ≡ Some y.bytes = sym (x.absent tells) ∙ y.stands tells in cc
 one_dir_outcome folder store address name (Ok (Some es)) (Ok None) tells x y =
     let h : Some x.bytes ≡ None = sym (x.stands tells) ∙ y.absent tells in cc
@@ -51,19 +51,19 @@ one_dir_outcome folder store address name (Ok (Some es)) (Ok (Some fs)) tells x 
     (one_reading (lines_of y.bytes) es fs (subst (λ t. HaveEntriesInOrder (lines_of t) es) same x.say) y.say)
 one_dir_outcome folder store address name (Ok (Some es)) (Err n) tells x (inl why) =
     not_named name n x.named why
-one_dir_outcome folder store address name (Ok (Some es)) (Err n) tells x (inr (line, told, y)) =
+one_dir_outcome folder store address name (Ok (Some es)) (Err n) tells x (inr (line, tells_read, y)) =
     absurd (not_both folder store address name es line tells x y)
 one_dir_outcome folder store address name (Err m) (Ok None) tells (inl why) y = not_named name m y.named why
-one_dir_outcome folder store address name (Err m) (Ok None) tells (inr (line, told, x)) y =
+one_dir_outcome folder store address name (Err m) (Ok None) tells (inr (line, tells_read, x)) y =
     let h : Some x.bytes ≡ None = sym (x.stands tells) ∙ y.absent tells in cc
 one_dir_outcome folder store address name (Err m) (Ok (Some es)) tells (inl why) y =
     not_named name m y.named why
-one_dir_outcome folder store address name (Err m) (Ok (Some es)) tells (inr (line, told, x)) y =
+one_dir_outcome folder store address name (Err m) (Ok (Some es)) tells (inr (line, tells_read, x)) y =
     absurd (not_both folder store address name es line tells y x)
 one_dir_outcome folder store address name (Err m) (Err n) tells (inl a) (inl b) = ap Err (a.0 ∙ sym b.0)
-one_dir_outcome folder store address name (Err m) (Err n) tells (inl why) (inr (line, told, y)) =
+one_dir_outcome folder store address name (Err m) (Err n) tells (inl why) (inr (line, tells_read, y)) =
     not_named name m y.named why
-one_dir_outcome folder store address name (Err m) (Err n) tells (inr (line, told, x)) (inl why) =
+one_dir_outcome folder store address name (Err m) (Err n) tells (inr (line, tells_read, x)) (inl why) =
     not_named name n x.named why
 one_dir_outcome folder store address name (Err m) (Err n) tells (inr a) (inr b) =
     ap Err (a.1 ∙ ap bad_line (one_dir_line folder store address name a.0 b.0 tells a.2 b.2) ∙ sym b.1)

@@ -56,7 +56,7 @@ same_ends old new same q =
     (get_by (λ k. slice_cmp nat_cmp q k.now) m)) same
 
 -- the URL of one key more is stored
-pub kept_more : (start old new : Definitions) (keys : List (Bor (List ℕ))) (i : ℕ) (d address : Bor (List ℕ))
+pub ends_more : (start old new : Definitions) (keys : List (Bor (List ℕ))) (i : ℕ) (d address : Bor (List ℕ))
     → i < length keys
     → ((q : List ℕ) → end_at old q
     ≡ cond (is_used (texts (take i keys)) q) (Some address.now) (end_at start q))
@@ -64,7 +64,7 @@ pub kept_more : (start old new : Definitions) (keys : List (Bor (List ℕ))) (i 
     (λ k. slice_cmp nat_cmp (get_or keys i d).now k.now) old.ends new.ends (Some address)
     → (q : List ℕ) → end_at new q
     ≡ cond (is_used (texts (take (i + 1) keys)) q) (Some address.now) (end_at start q)
-kept_more start old new keys i d address within so_far updates q =
+ends_more start old new keys i d address within so_far updates q =
     let key = (get_or keys i d).now in
     let now : Bor (List ℕ) → List ℕ = λ a. a.now in
     let more : texts (take (i + 1) keys) ≡ texts (take i keys) ++ key ∷ [] = map_more now keys i d within in

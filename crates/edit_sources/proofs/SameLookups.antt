@@ -8,24 +8,24 @@ use Rattle.edit_sources.specs.LocalIndex.{LocalGives}
 gives_along : (old new : StoreView) → new.tells ≡ old.tells → SameFiles old.file_at new.file_at
     → (address : Parts) (name : List ℕ) (outcome : Outcome) → LocalGives old address name outcome
     → LocalGives new address name outcome
-gives_along old new told same address name (Ok None) h =
-    record { path = h.path; at = h.at; absent = λ t. same h.path ∙ h.absent (sym told ∙ t) }
-gives_along old new told same address name (Ok (Some entries)) h = record {
+gives_along old new same_tells same address name (Ok None) h =
+    record { path = h.path; at = h.at; absent = λ t. same h.path ∙ h.absent (sym same_tells ∙ t) }
+gives_along old new same_tells same address name (Ok (Some entries)) h = record {
   path = h.path;
   bytes = h.bytes;
   at = h.at;
-  stands = λ t. same h.path ∙ h.stands (sym told ∙ t);
+  stands = λ t. same h.path ∙ h.stands (sym same_tells ∙ t);
   say = h.say;
 }
-gives_along old new told same address name (Err e) (inl lacks) = inl lacks
-gives_along old new told same address name (Err e) (inr (line, is, h)) = inr (
+gives_along old new same_tells same address name (Err e) (inl lacks) = inl lacks
+gives_along old new same_tells same address name (Err e) (inr (line, is, h)) = inr (
   line,
   is,
   record {
     path = h.path;
     bytes = h.bytes;
     at = h.at;
-    stands = λ t. same h.path ∙ h.stands (sym told ∙ t);
+    stands = λ t. same h.path ∙ h.stands (sym same_tells ∙ t);
     bad = h.bad;
   },
 )
@@ -33,7 +33,7 @@ gives_along old new told same address name (Err e) (inr (line, is, h)) = inr (
 -- the same files give the same results
 pub same_lookups : (old new : StoreView) → new.tells ≡ old.tells → SameFiles old.file_at new.file_at
     → SameOutcomes (LocalGives old) (LocalGives new)
-same_lookups old new told same = λ address name outcome. (
-  gives_along new old (sym told) (λ path. sym (same path)) address name outcome,
-  gives_along old new told same address name outcome,
+same_lookups old new same_tells same = λ address name outcome. (
+  gives_along new old (sym same_tells) (λ path. sym (same path)) address name outcome,
+  gives_along old new same_tells same address name outcome,
 )

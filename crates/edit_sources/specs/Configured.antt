@@ -2,7 +2,7 @@
 use Rattle.std.specs.Prelude.{◌≡◌, ℕ, List, Option, None, Ok, Err, map, option_map, String, string_bytes}
 use Rattle.std.specs.declared.alloc.Global.{Global}
 use Rattle.edit_base.specs.declared.errors.Error.{Error}
-use Rattle.edit_base.specs.declared.errors.Error.TheVariants as refusal
+use Rattle.edit_base.specs.declared.errors.Error.TheVariants as error
 use Rattle.std.specs.Borrow.{Bor}
 use Rattle.url.specs.Parser.{parse_url}
 use Rattle.url.specs.Parts.{Parts}
@@ -43,7 +43,7 @@ paths_of configs = map (λ c. string_bytes c.path) configs
 
 -- the error is `Config` with this path (own)
 abbrev pub IsConfigErrorAt : List ℕ → Error → Type 0
-IsConfigErrorAt path e = (named : String Global) × (e ≡ refusal.Config named) × (string_bytes named ≡ path)
+IsConfigErrorAt path e = (named : String Global) × (e ≡ error.Config named) × (string_bytes named ≡ path)
 
 -- the definitions of these configurations (own)
 abbrev pub all_definitions : List Config → List chain.Definition
@@ -61,7 +61,7 @@ pub record HasAddress (configs : List Config) (registry : Option (List ℕ)) (ur
 
 -- the error of an address that is no URL (URL Standard, "URL parsing")
 pub record IsNoUrl (address : List ℕ) (e : Error) : Type 0 where
-  pub is : e ≡ refusal.InvalidUrl
+  pub is : e ≡ error.InvalidUrl
   pub fault : ParseError
   pub reads : parse_url None address ≡ Err fault
 
@@ -69,10 +69,10 @@ pub record IsNoUrl (address : List ℕ) (e : Error) : Type 0 where
 -- end, or one that is no URL (own)
 pub data HasNoUrl (configs : List Config) (registry : Option (List ℕ)) : Error → Type 0 where
   no_head : (key : String Global) → chain.HasNoHead (all_definitions configs) registry (string_bytes key)
-      → HasNoUrl configs registry (refusal.RegistryNotFound key)
+      → HasNoUrl configs registry (error.RegistryNotFound key)
   breaks : (key : String Global) → chain.BreaksAt (all_definitions configs) registry (string_bytes key)
-      → HasNoUrl configs registry (refusal.SourceNotFound key)
+      → HasNoUrl configs registry (error.SourceNotFound key)
   no_address : chain.HasNoAddress (all_definitions configs) registry
-      → HasNoUrl configs registry refusal.MissingRegistry
+      → HasNoUrl configs registry error.MissingRegistry
   no_url : (text : List ℕ) (e : ParseError) → chain.Address (all_definitions configs) registry text
-      → parse_url None text ≡ Err e → HasNoUrl configs registry refusal.InvalidUrl
+      → parse_url None text ≡ Err e → HasNoUrl configs registry error.InvalidUrl

@@ -105,7 +105,7 @@ pub record Address (ds : List Definition) (registry : Option (List ℕ)) (addres
 
 -- the registry is a key that no file defines (own)
 pub record HasNoHead (ds : List Definition) (registry : Option (List ℕ)) (key : List ℕ) : Type 0 where
-  pub asked : registry ≡ Some key
+  pub names : registry ≡ Some key
   pub undefined : head_source ds registry ≡ None
 
 -- the chain leads to a key that was used before or that no file defines (own)

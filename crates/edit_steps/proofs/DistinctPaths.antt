@@ -41,13 +41,13 @@ made_differ f (x ∷ xs) pairs =
         (each ys (λ j d within. apart (suc j) d (omega (arith, within))))
 
 -- and back
-kept_differ : {X : Type 0} (f : X → List ℕ) (xs : List X) → Differ (map f xs)
+pairs_differ : {X : Type 0} (f : X → List ℕ) (xs : List X) → Differ (map f xs)
     → AllPairs (λ a b. f a ≢ f b) xs
-kept_differ f [] pairs = none_differ (λ a b. f a ≢ f b)
-kept_differ f (x ∷ xs) pairs =
+pairs_differ f [] pairs = none_differ (λ a b. f a ≢ f b)
+pairs_differ f (x ∷ xs) pairs =
     AllPairs-cons (λ a b. f a ≢ f b) x xs
     (each xs (first_differs (λ a b. a ≢ b) (f x) (map f xs) pairs))
-    (kept_differ f xs (others_differ (λ a b. a ≢ b) (f x) (map f xs) pairs))
+    (pairs_differ f xs (others_differ (λ a b. a ≢ b) (f x) (map f xs) pairs))
   where
     each : (ys : List _)
         → ((j : ℕ) (d : List ℕ) → j < length (map f ys) → f x ≢ slice_index_or (map f ys) j d)
@@ -62,6 +62,6 @@ pub outputs_differ : (keep : List ℕ → Bool) (inputs : List Input) (outputs :
     ≡ filter keep (map (λ (i : Input). string_bytes i.path) inputs)
     → HaveDistinctPaths outputs
 outputs_differ keep inputs outputs own in_order =
-    kept_differ path_of outputs (subst Differ (sym in_order)
+    pairs_differ path_of outputs (subst Differ (sym in_order)
     (AllPairs-filter (λ a b. a ≢ b) keep (map (λ (i : Input). string_bytes i.path) inputs)
     (made_differ (λ (i : Input). string_bytes i.path) inputs own)))

@@ -5,18 +5,18 @@ use Rattle.edit_base.specs.declared.errors.Error.{Error}
 use Rattle.edit_steps.specs.declared.run_error.RunError.{RunError}
 
 -- a refusal that is handed on has the cause of its error
-pub refusal_has : {T : Type 0} (r : Result T RunError) (e : RunError) (P : Error → Type 0)
+pub failure_has : {T : Type 0} (r : Result T RunError) (e : RunError) (P : Error → Type 0)
     → IsErrAnd r (λ other. other ≡ e) → P e.error → IfErr r (λ x. P x.error)
-refusal_has (Ok x) e P same h = tt
-refusal_has (Err other) e P same h = subst (λ (x : RunError). P x.error) (sym same) h
+failure_has (Ok x) e P same h = tt
+failure_has (Err other) e P same h = subst (λ (x : RunError). P x.error) (sym same) h
 
 -- and so has one that was made of an error
-pub refusal_made : {T : Type 0} (r : Result T RunError) (e : Error) (P : Error → Type 0)
+pub failure_made : {T : Type 0} (r : Result T RunError) (e : Error) (P : Error → Type 0)
     → IsErrAnd r (λ other. other.error ≡ e) → P e → IfErr r (λ x. P x.error)
-refusal_made (Ok x) e P same h = tt
-refusal_made (Err other) e P same h = subst P (sym same) h
+failure_made (Ok x) e P same h = tt
+failure_made (Err other) e P same h = subst P (sym same) h
 
 -- what holds anyway holds of a refusal
-pub on_refusal : {T E : Type 0} (r : Result T E) (P : Type 0) → P → OnErr r P
-on_refusal (Ok x) P h = tt
-on_refusal (Err e) P h = h
+pub on_failure : {T E : Type 0} (r : Result T E) (P : Type 0) → P → OnErr r P
+on_failure (Ok x) P h = tt
+on_failure (Err e) P h = h

@@ -28,10 +28,10 @@ only_on of old mid new e P Q reads wider (inl refused) = inl (refused_on of old 
 only_on of old mid new e P Q reads wider (inr error) = inr (wider error)
 
 -- an error of a step is one of the same step before later reads
-pub only_before : (of : DeviceCall) (old mid new : StoreView) (e told : Error) (P : Error → Type 0)
-    → OnlyReads mid new → new.faults < 2 ^ 64 → told ≡ e → IsCallError of old mid e ⊎ P e
-    → IsCallError of old new told ⊎ P told
-only_before of old mid new e told P reads bound same why =
+pub only_before : (of : DeviceCall) (old mid new : StoreView) (e seen : Error) (P : Error → Type 0)
+    → OnlyReads mid new → new.faults < 2 ^ 64 → seen ≡ e → IsCallError of old mid e ⊎ P e
+    → IsCallError of old new seen ⊎ P seen
+only_before of old mid new e seen P reads bound same why =
     subst (λ x. IsCallError of old new x ⊎ P x) (sym same) (later why)
   where
     later : IsCallError of old mid e ⊎ P e → IsCallError of old new e ⊎ P e
@@ -64,9 +64,9 @@ config_counted old new e (inr (path, (named, config, at))) is =
 -- ---- parts
 
 -- malformed metadata, or members that share a folder
-pub unsaid_error : (old new : StoreView) (bytes : List ℕ) (e told : Error) → told ≡ e → IsNoWorkspace bytes e
-    → IsCallError call.Read old new told ⊎ IsMetadataError told
-unsaid_error old new bytes e told same why =
+pub unsaid_error : (old new : StoreView) (bytes : List ℕ) (e seen : Error) → seen ≡ e → IsNoWorkspace bytes e
+    → IsCallError call.Read old new seen ⊎ IsMetadataError seen
+unsaid_error old new bytes e seen same why =
     subst (λ x. IsCallError call.Read old new x ⊎ IsMetadataError x) (sym same) (error why)
   where
     error : IsNoWorkspace bytes e → IsCallError call.Read old new e ⊎ IsMetadataError e

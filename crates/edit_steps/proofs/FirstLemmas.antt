@@ -40,7 +40,7 @@ pub first_ungathered : (F K : Type 0) (old : StoreView) (home : Option (List ℕ
     → IsMemory e ⊎ (F ⊎ (K → old.tells ≡ true → IsUngathered old.file_at home pair manifest e))
 first_ungathered F K old home pair manifest file whole e is first (inl memory) = inl memory
 first_ungathered F K old home pair manifest file whole e is first (inr unread) =
-    inr (inr (λ kept t. at_first (subst (λ f. IsUnreadFile f e) (seen_of file whole is ∙ first) unread)))
+    inr (inr (λ cached t. at_first (subst (λ f. IsUnreadFile f e) (seen_of file whole is ∙ first) unread)))
 
 -- a file of the manifest's own is malformed
 pub own_ungathered : (F K : Type 0) (old : StoreView) (home : Option (List ℕ)) (pair : Pair)
@@ -53,8 +53,8 @@ own_ungathered F K old home pair manifest file whole first e is named said (inl 
 own_ungathered F K old home pair manifest file whole first e is named said (inr (inl failed)) =
     inr (inl failed)
 own_ungathered F K old home pair manifest file whole first e is named said (inr (inr fails)) =
-    inr (inr (λ kept t. at_own first (subst (λ f. AreConfigsIn f first) (seen_of file whole is ∙ named) said)
-    (fails kept t)))
+    inr (inr (λ cached t. at_own first (subst (λ f. AreConfigsIn f first) (seen_of file whole is ∙ named) said)
+    (fails cached t)))
 
 -- the file that is named last is malformed
 pub last_ungathered : (F K : Type 0) (old : StoreView) (home : Option (List ℕ)) (pair : Pair)
@@ -69,8 +69,8 @@ last_ungathered F K old home pair manifest file last whole last_whole first own 
     said read (inl memory) = inl memory
 last_ungathered F K old home pair manifest file last whole last_whole first own e is named behind last_named
     said read (inr unread) =
-    inr (inr (λ kept t. at_last first own
-    (subst (λ f. AreConfigsIn f first) (seen_of file whole is ∙ named) said) (read kept t)
+    inr (inr (λ cached t. at_last first own
+    (subst (λ f. AreConfigsIn f first) (seen_of file whole is ∙ named) said) (read cached t)
     (subst (λ f. IsUnreadFile f e) (seen_of last last_whole behind ∙ last_named) unread)))
 
 -- a file of the manifest's own is malformed, and another manifest has a list
@@ -120,11 +120,11 @@ pub stops_at_input : (old mid new : StoreView) (K : Type 0) (home : Option (List
     → IsMemory e ⊎ (HasFailed mid.faults new.faults e
     ⊎ (K → mid.tells ≡ true → IsUngathered mid.file_at home pair path e))
     → IsCallError call.Read old new e ⊎ (old.tells ≡ true → StopsAtInput old.file_at home pair inputs e)
-stops_at_input old mid new K home pair inputs i input path configs e reads kept within is here read
+stops_at_input old mid new K home pair inputs i input path configs e reads cached within is here read
     (inl memory) = inl (inl memory)
-stops_at_input old mid new K home pair inputs i input path configs e reads kept within is here read
+stops_at_input old mid new K home pair inputs i input path configs e reads cached within is here read
     (inr (inl failed)) = inl (refused_on call.Read old mid new e reads (inr (failed.is, failed.counted)))
-stops_at_input old mid new K home pair inputs i input path configs e reads kept within is here read
+stops_at_input old mid new K home pair inputs i input path configs e reads cached within is here read
     (inr (inr stops)) = inr (λ t. record {
       before = take i inputs;
       input = input;
@@ -133,5 +133,5 @@ stops_at_input old mid new K home pair inputs i input path configs e reads kept 
       configs = configs;
       gathered = read t;
       fails = subst (λ at. IsUngathered old.file_at home pair at e) here
-          (before (λ files. IsUngathered files home pair path e) old mid reads (stops kept) t);
+          (before (λ files. IsUngathered files home pair path e) old mid reads (stops cached) t);
     })

@@ -52,10 +52,10 @@ refused_before of old mid new e reads bound (inr failed) = inr (failed.0, later 
 
 -- configurations that are not read, before more reads
 pub unconfigured_before : (old mid new : StoreView) (home : Option (List ℕ)) (pair : Pair) (inputs : List Input)
-    (e told : Error) → OnlyReads mid new → new.faults < 2 ^ 64 → told ≡ e
+    (e shown : Error) → OnlyReads mid new → new.faults < 2 ^ 64 → shown ≡ e
     → IsCallError call.Read old mid e ⊎ (old.tells ≡ true → IsUnconfigured old.file_at home pair inputs e)
-    → IsCallError call.Read old new told ⊎ (old.tells ≡ true → IsUnconfigured old.file_at home pair inputs told)
-unconfigured_before old mid new home pair inputs e told reads bound same why =
+    → IsCallError call.Read old new shown ⊎ (old.tells ≡ true → IsUnconfigured old.file_at home pair inputs shown)
+unconfigured_before old mid new home pair inputs e shown reads bound same why =
     subst (λ x. IsCallError call.Read old new x
     ⊎ (old.tells ≡ true → IsUnconfigured old.file_at home pair inputs x)) (sym same) (later why)
   where
@@ -119,8 +119,8 @@ unconfigured old mid new home pair inputs input path e reads here has (inr (inr 
 unconfigured old mid new home pair inputs input path e reads here has (inr (inr (inr (inr wrong)))) =
     inr (λ t. of_input input has
     (before (λ files. ConfigsFail true files (string_bytes input.path) home e) old mid reads
-    (λ told. subst (λ at. ConfigsFail true mid.file_at at home e) here
-    (subst (λ b. ConfigsFail b mid.file_at path home e) told wrong)) t))
+    (λ shown. subst (λ at. ConfigsFail true mid.file_at at home e) here
+    (subst (λ b. ConfigsFail b mid.file_at path home e) shown wrong)) t))
 
 -- ---- causes
 

@@ -38,36 +38,36 @@ apart_paths p q f g s t differ at_f at_g normal_s normal_t same =
     (folder_at q g t at_g normal_t))
 
 -- one from each of the others
-from_others : (asked : RustOptions) (p f s : List ℕ) → IsManifestFolder p f → IsNormalOf p s
+from_others : (options : RustOptions) (p f s : List ℕ) → IsManifestFolder p f → IsNormalOf p s
     → (ps : List PackageModel) (folders : List (List ℕ)) (is : List Input)
     → AllZip IsManifestFolder (map (λ (q : PackageModel). q.manifest_path) ps) folders
-    → AllZip (IsInputOf asked) (map manifest_of ps) is
+    → AllZip (IsInputOf options) (map manifest_of ps) is
     → ((j : ℕ) (d : List ℕ) → j < length folders → f ≢ slice_index_or folders j d)
     → All (λ (i : Input). s ≢ string_bytes i.path) is
-from_others asked p f s at normal [] folders [] stand are apart = All-nil (λ i. s ≢ string_bytes i.path)
-from_others asked p f s at normal [] folders (i ∷ is) stand are apart = absurd are
-from_others asked p f s at normal (q ∷ qs) [] is stand are apart = absurd stand
-from_others asked p f s at normal (q ∷ qs) (g ∷ gs) [] stand are apart = absurd are
-from_others asked p f s at normal (q ∷ qs) (g ∷ gs) (i ∷ is) stand are apart =
+from_others options p f s at normal [] folders [] stand are apart = All-nil (λ i. s ≢ string_bytes i.path)
+from_others options p f s at normal [] folders (i ∷ is) stand are apart = absurd are
+from_others options p f s at normal (q ∷ qs) [] is stand are apart = absurd stand
+from_others options p f s at normal (q ∷ qs) (g ∷ gs) [] stand are apart = absurd are
+from_others options p f s at normal (q ∷ qs) (g ∷ gs) (i ∷ is) stand are apart =
     All-cons (λ (i : Input). s ≢ string_bytes i.path) i is
     (apart_paths p q.manifest_path f g s (string_bytes i.path) (apart zero g (omega arith)) at stand.0 normal
     are.0.path)
-    (from_others asked p f s at normal qs gs is stand.1 are.1
+    (from_others options p f s at normal qs gs is stand.1 are.1
     (λ j d within. apart (suc j) d (omega (arith, within))))
 
-members_apart : (asked : RustOptions) (ps : List PackageModel) (folders : List (List ℕ)) (is : List Input)
+members_apart : (options : RustOptions) (ps : List PackageModel) (folders : List (List ℕ)) (is : List Input)
     → AllZip IsManifestFolder (map (λ (q : PackageModel). q.manifest_path) ps) folders
-    → AllZip (IsInputOf asked) (map manifest_of ps) is → Differ folders → HaveOwnPaths is
-members_apart asked [] folders [] stand are differ =
+    → AllZip (IsInputOf options) (map manifest_of ps) is → Differ folders → HaveOwnPaths is
+members_apart options [] folders [] stand are differ =
     none_differ (λ (a b : Input). string_bytes a.path ≢ string_bytes b.path)
-members_apart asked [] folders (i ∷ is) stand are differ = absurd are
-members_apart asked (p ∷ ps) [] is stand are differ = absurd stand
-members_apart asked (p ∷ ps) (f ∷ fs) [] stand are differ = absurd are
-members_apart asked (p ∷ ps) (f ∷ fs) (i ∷ is) stand are differ =
+members_apart options [] folders (i ∷ is) stand are differ = absurd are
+members_apart options (p ∷ ps) [] is stand are differ = absurd stand
+members_apart options (p ∷ ps) (f ∷ fs) [] stand are differ = absurd are
+members_apart options (p ∷ ps) (f ∷ fs) (i ∷ is) stand are differ =
     AllPairs-cons (λ (a b : Input). string_bytes a.path ≢ string_bytes b.path) i is
-    (from_others asked p.manifest_path f (string_bytes i.path) stand.0 are.0.path ps fs is stand.1 are.1
+    (from_others options p.manifest_path f (string_bytes i.path) stand.0 are.0.path ps fs is stand.1 are.1
     (first_differs (λ a b. a ≢ b) f fs differ))
-    (members_apart asked ps fs is stand.1 are.1 (others_differ (λ a b. a ≢ b) f fs differ))
+    (members_apart options ps fs is stand.1 are.1 (others_differ (λ a b. a ≢ b) f fs differ))
 
 -- a path that no input has
 none_has : (is : List Input) (path : List ℕ) → (Contains (input_paths is) path → ⊥)
@@ -79,24 +79,24 @@ none_has (i ∷ is) path none =
     (none_has is path (λ has. none (suc has.0, omega (arith, has.1), has.2)))
 
 -- the inputs of a workspace have paths of their own
-pub own_paths : (asked : RustOptions) (w : WorkspaceModel) (is : List Input) → HasOwnFolders w
-    → AreInputs asked w is → HaveOwnPaths is
-own_paths asked w _ own (of_members root is are normal among) =
-    members_apart asked (members w.packages) own.folders is own.stand are own.apart
-own_paths asked w _ own (with_root i is are root none) =
+pub own_paths : (options : RustOptions) (w : WorkspaceModel) (is : List Input) → HasOwnFolders w
+    → AreInputs options w is → HaveOwnPaths is
+own_paths options w _ own (of_members root is are normal among) =
+    members_apart options (members w.packages) own.folders is own.stand are own.apart
+own_paths options w _ own (with_root i is are root none) =
     AllPairs-cons (λ (a b : Input). string_bytes a.path ≢ string_bytes b.path) i is
     (none_has is (string_bytes i.path) none)
-    (members_apart asked (members w.packages) own.folders is own.stand are own.apart)
+    (members_apart options (members w.packages) own.folders is own.stand are own.apart)
 
 -- ---- a workspace that was read
 
 -- its metadata, and then its manifests
-pub is_read : (asked : RustOptions) (old mid : StoreView) (current named : List ℕ) (w : WorkspaceModel)
+pub is_read : (options : RustOptions) (old mid : StoreView) (current named : List ℕ) (w : WorkspaceModel)
     (is : List Input) → OnlyReads old mid
-    → (old.tells ≡ true → AreMetadataRead old.file_at current named w) → AreInputs asked w is
+    → (old.tells ≡ true → AreMetadataRead old.file_at current named w) → AreInputs options w is
     → (mid.tells ≡ true → All (IsReadFrom mid.file_at) is)
-    → old.tells ≡ true → IsWorkspaceRead old.file_at current named asked w is
-is_read asked old mid current named w is reads metadata inputs bytes t = record {
+    → old.tells ≡ true → IsWorkspaceRead old.file_at current named options w is
+is_read options old mid current named w is reads metadata inputs bytes t = record {
   metadata = metadata t;
   are = inputs;
   bytes = λ k d within. sym (reads.files _) ∙ bytes (reads.tells ∙ t) k d within;
@@ -125,12 +125,12 @@ pub manifest_cause : (old mid new : StoreView) (current named : List ℕ) (w : W
     → IsNoInput mid new (manifests w) e
     → IsCallError call.Read old new e ⊎ (old.tells ≡ true → HasNoWorkspace old.file_at current named e)
 manifest_cause old mid new current named w e reads metadata cause =
-    told (no-input-later old mid new (manifests w) (manifests w) e reads (λ tells lack. lack) cause)
+    shown (no-input-later old mid new (manifests w) (manifests w) e reads (λ tells lack. lack) cause)
   where
-    told : IsNoInput old new (manifests w) e
+    shown : IsNoInput old new (manifests w) e
         → IsCallError call.Read old new e ⊎ (old.tells ≡ true → HasNoWorkspace old.file_at current named e)
-    told (inl refused) = inl refused
-    told (inr none) = inr (λ t. inr (record {
+    shown (inl refused) = inl refused
+    shown (inr none) = inr (λ t. inr (record {
       workspace = w;
       metadata = metadata t;
       is = none.0;
@@ -138,12 +138,12 @@ manifest_cause old mid new current named w e reads metadata cause =
     }))
 
 -- a manifest that is not read, before more reads
-pub manifest_before : (old mid read new : StoreView) (current named : List ℕ) (w : WorkspaceModel) (e told : Error)
-    → OnlyReads old mid → OnlyReads read new → new.faults < 2 ^ 64 → told ≡ e
+pub manifest_before : (old mid read new : StoreView) (current named : List ℕ) (w : WorkspaceModel) (e shown : Error)
+    → OnlyReads old mid → OnlyReads read new → new.faults < 2 ^ 64 → shown ≡ e
     → (old.tells ≡ true → AreMetadataRead old.file_at current named w)
     → IsNoInput mid read (manifests w) e
-    → IsCallError call.Read old new told ⊎ (old.tells ≡ true → HasNoWorkspace old.file_at current named told)
-manifest_before old mid read new current named w e told before reads bound same metadata cause =
+    → IsCallError call.Read old new shown ⊎ (old.tells ≡ true → HasNoWorkspace old.file_at current named shown)
+manifest_before old mid read new current named w e shown before reads bound same metadata cause =
     subst (λ x. IsCallError call.Read old new x ⊎ (old.tells ≡ true → HasNoWorkspace old.file_at current named x))
     (sym same) (later (manifest_cause old mid read current named w e before metadata cause))
   where

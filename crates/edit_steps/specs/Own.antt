@@ -33,16 +33,16 @@ abbrev pub declared_rust : Tree → Option Numbers
 declared_rust t = option_and_then rust_of (package_text t (codes "rust-version"))
 
 -- an input has the name in its bytes, and the requested Rust version, else the one in its bytes
-pub record HasOwnNameAndRust (asked : RustOptions) (input : Input) : Type 0 where
+pub record HasOwnNameAndRust (options : RustOptions) (input : Input) : Type 0 where
   pub form : Text
   pub manifest : IsDocument input.bytes.items form
   pub name : string_bytes input.name ≡ report_name (view_at form)
   pub rust_version : option_map numbers_of input.rust_version
-      ≡ rust_version_for asked (declared_rust (view_at form))
+      ≡ rust_version_for options (declared_rust (view_at form))
 
 -- the given manifest was read, or the nearest one where none is given
-pub record IsManifestRead (files : Files) (current : List ℕ) (named : Option (List ℕ)) (asked : RustOptions)
+pub record IsManifestRead (files : Files) (current : List ℕ) (named : Option (List ℕ)) (options : RustOptions)
     (input : Input) : Type 0 where
   pub at : IsManifestPath files current named (string_bytes input.path)
   pub is : IsReadFrom files input
-  pub says : HasOwnNameAndRust asked input
+  pub says : HasOwnNameAndRust options input

@@ -11,10 +11,10 @@ known_line name (Some text) = codes "  " ++ (name ++ (text ++ 10 ∷ []))
 
 -- the lines of an error that are known: its place, its cause, the help
 abbrev pub known_lines : RunError → List ℕ
-known_lines refusal =
-    known_line (codes "at ") (option_map string_bytes refusal.place)
-    ++ (known_line (codes "cause: ") (option_map string_bytes refusal.cause)
-    ++ known_line (codes "help: ") (option_map string_bytes refusal.help))
+known_lines failure =
+    known_line (codes "at ") (option_map string_bytes failure.place)
+    ++ (known_line (codes "cause: ") (option_map string_bytes failure.cause)
+    ++ known_line (codes "help: ") (option_map string_bytes failure.help))
 
 -- the first line of an error: its message after `Error: `
 abbrev pub title_line : List ℕ → List ℕ
@@ -27,9 +27,9 @@ pub record IsTitlePrinted (old new : Option (List ℕ)) : Type 0 where
 
 -- the text of an error was appended: its first line, whose message is not specified, and the lines that are
 -- known
-pub record IsErrorPrinted (refusal : RunError) (old new : Option (List ℕ)) : Type 0 where
+pub record IsErrorPrinted (failure : RunError) (old new : Option (List ℕ)) : Type 0 where
   pub message : List ℕ
-  pub appends : Appends old new (title_line message ++ known_lines refusal)
+  pub appends : Appends old new (title_line message ++ known_lines failure)
 
 -- whether a byte continues a UTF-8 sequence, so that it begins no character (RFC 3629, section 3)
 abbrev pub is_continuation_byte : ℕ → Bool

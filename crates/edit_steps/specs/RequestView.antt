@@ -25,12 +25,12 @@ pub record RequestView : Type 0 where
 
 -- the request of the program's type
 abbrev pub request_view : SourceRequest → RequestView
-request_view asked = record {
-  manifest = given asked.manifest_path;
-  metadata = given asked.metadata_json;
-  index = given asked.index_file;
-  index_dir = given asked.index_dir;
-  config = given asked.config;
-  default_config = given asked.default_config;
-  rust = rust_request asked.rust;
+request_view request = record {
+  manifest = given request.manifest_path;
+  metadata = given request.metadata_json;
+  index = given request.index_file;
+  index_dir = given request.index_dir;
+  config = given request.config;
+  default_config = given request.default_config;
+  rust = rust_request request.rust;
 }

@@ -18,10 +18,10 @@ pub record AreMetadataRead (files : Files) (current named : List ℕ) (w : Works
   pub say : AreMetadata bytes w
 
 -- a workspace was read: its metadata, and its manifests
-pub record IsWorkspaceRead (files : Files) (current named : List ℕ) (asked : RustOptions) (w : WorkspaceModel)
+pub record IsWorkspaceRead (files : Files) (current named : List ℕ) (options : RustOptions) (w : WorkspaceModel)
     (inputs : List Input) : Type 0 where
   pub metadata : AreMetadataRead files current named w
-  pub are : AreInputs asked w inputs
+  pub are : AreInputs options w inputs
   pub bytes : All (IsReadFrom files) inputs
 
 -- the cause of an error of metadata: the file is missing, or its bytes are no metadata

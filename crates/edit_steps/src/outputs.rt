@@ -159,25 +159,25 @@ fn written_text(
         return format!(in alloc; "{reason}; none of {count} files was written");
     }
     let mut text = format!(in alloc; "{reason}; {done} of {count} files were written")?;
-    let mut mark = ": ";
+    let mut separator = ": ";
     for output in outputs.iter().take(done) {
-        text.push_str(mark)?;
+        text.push_str(separator)?;
         text.push_str(output.path.as_str())?;
-        mark = ", ";
+        separator = ", ";
     }
     Ok(text)
 }
 
 /// Adds to an error of writing several outputs how many of them were written before it, and which.
-fn at_output(alloc: Global, refusal: RunError, outputs: &[Output], done: usize) -> RunError
-    ensures { result.error ≡ refusal.error }
+fn at_output(alloc: Global, failure: RunError, outputs: &[Output], done: usize) -> RunError
+    ensures { result.error ≡ failure.error }
 {
     let RunError {
         error,
         place,
         cause,
         help,
-    } = refusal;
+    } = failure;
     let cause = match cause {
         Some(reason) if outputs.len() > 1 => {
             written_text(alloc, reason.as_str(), outputs, done).ok()
@@ -207,7 +207,7 @@ fn write_all<S: Store>(alloc: Global, outputs: &[Output], files: &mut S) -> RunR
     for output in outputs {
         match write_output(alloc, output, files) {
             Ok(()) => done = done.saturating_add(1),
-            Err(refusal) => return Err(at_output(alloc, refusal, outputs, done)),
+            Err(failure) => return Err(at_output(alloc, failure, outputs, done)),
         }
     }
     Ok(())
@@ -245,9 +245,9 @@ pub fn write_outputs<S: Store>(alloc: Global, outputs: &[Output], files: &mut S)
 {
     match stage_and_write(alloc, outputs, files) {
         Ok(()) => Ok(()),
-        Err(refusal) => {
+        Err(failure) => {
             files.unstage(alloc);
-            Err(refusal)
+            Err(failure)
         }
     }
 }
@@ -261,9 +261,9 @@ pub fn stage_outputs<S: Store>(alloc: Global, outputs: &[Output], files: &mut S)
 {
     match make_ready(alloc, outputs, files) {
         Ok(()) => Ok(()),
-        Err(refusal) => {
+        Err(failure) => {
             files.unstage(alloc);
-            Err(refusal)
+            Err(failure)
         }
     }
 }

@@ -70,12 +70,12 @@ fn print_known<E: io::Write>(name: &str, known: &Option<String>, err: &mut E) ->
 }
 
 /// Prints the place, the cause and the help of an error, where they are known.
-fn print_lines<E: io::Write>(refusal: &RunError, err: &mut E) -> io::Result<()>
-    ensures { OnOk result (Appends (E.contents err.old) (E.contents err.new) (known_lines refusal.now)) }
+fn print_lines<E: io::Write>(failure: &RunError, err: &mut E) -> io::Result<()>
+    ensures { OnOk result (Appends (E.contents err.old) (E.contents err.new) (known_lines failure.now)) }
 {
-    print_known("at ", &refusal.place, err)?;
-    print_known("cause: ", &refusal.cause, err)?;
-    print_known("help: ", &refusal.help, err)
+    print_known("at ", &failure.place, err)?;
+    print_known("cause: ", &failure.cause, err)?;
+    print_known("help: ", &failure.help, err)
 }
 
 /// Prints the first line of an error.
@@ -98,11 +98,11 @@ fn print_message<E: io::Write>(alloc: Global, error: &Error, err: &mut E) -> io:
 
 /// Prints an error as the program ends with it: its message after `Error: `, and below it one line each for
 /// its place, its cause and the help, where they are known. The contract does not specify the message.
-pub fn print_error<E: io::Write>(alloc: Global, refusal: &RunError, err: &mut E) -> io::Result<()>
-    ensures { OnOk result (IsErrorPrinted refusal.now (E.contents err.old) (E.contents err.new)) }
+pub fn print_error<E: io::Write>(alloc: Global, failure: &RunError, err: &mut E) -> io::Result<()>
+    ensures { OnOk result (IsErrorPrinted failure.now (E.contents err.old) (E.contents err.new)) }
 {
-    print_message(alloc, &refusal.error, err)?;
-    print_lines(refusal, err)
+    print_message(alloc, &failure.error, err)?;
+    print_lines(failure, err)
 }
 
 /// The place of an error in the file at a path: the file, or a line of it. `None` where memory ran out.
@@ -156,8 +156,8 @@ pub fn at_file(alloc: Global, error: Error, path: &str, reason: Option<String>) 
     ensures other { number_of error ≢ 3 → result.cause ≡ None }
 {
     let cause = cause_of(&error, reason);
-    let refusal = at_path(alloc, error, path);
-    RunError { cause, ..refusal }
+    let failure = at_path(alloc, error, path);
+    RunError { cause, ..failure }
 }
 
 /// The place of a byte in a file, as `PATH:LINE:COLUMN`. Line and column count from 1, the column in

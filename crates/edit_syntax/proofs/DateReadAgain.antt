@@ -10,7 +10,7 @@ use Rattle.edit_syntax.specs.ReadingSteps.{first}
 use Rattle.edit_syntax.specs.ReadingNumbers.{count_at, group_at, date_at, second_at, time_at, offset_at, is_time_next, date_time_at, local_time_at, unsigned_at, number_at}
 use Rattle.edit_syntax.proofs.TokenLaws.{front_again, after_again}
 use Rattle.edit_syntax.proofs.NumberReadAgain.{number_unsigned, is_start, start_digit}
-use Rattle.edit_syntax.proofs.NumberEnds.{is_word, EndsValue}
+use Rattle.edit_syntax.proofs.NumberEnds.{is_value_byte, EndsValue}
 
 long_run : (class : ℕ → Bool) (ds rest : List ℕ) → All class ds → length ds ≤ prefix_len class (ds ++ rest)
 long_run class [] rest h = omega arith
@@ -83,19 +83,19 @@ record EndsOffset (b : ℕ) : Type 0 where
   no_zulu : (eqb b 90 || eqb b 122) ≡ false
   no_shift : (eqb b 43 || eqb b 45) ≡ false
 
-word_offset : (b : ℕ) → is_word b ≡ false → EndsOffset b
-word_offset b h = record { no_zulu = grind (arith, nat_tests); no_shift = grind (arith, nat_tests) }
+ends_offset : (b : ℕ) → is_value_byte b ≡ false → EndsOffset b
+ends_offset b h = record { no_zulu = grind (arith, nat_tests); no_shift = grind (arith, nat_tests) }
 
-word_time : (b : ℕ) → is_word b ≡ false → EndsTime b
-word_time b h = record { no_digit = grind (arith, nat_tests); no_dot = grind (arith, nat_tests) }
+ends_time : (b : ℕ) → is_value_byte b ≡ false → EndsTime b
+ends_time b h = record { no_digit = grind (arith, nat_tests); no_dot = grind (arith, nat_tests) }
 
 shift_not : (s : ℕ) → (eqb s 43 || eqb s 45) ≡ true → (eqb s 90 || eqb s 122) ≡ false
 shift_not s h = grind (arith, nat_tests)
 
-offset_again : (o : Offset) (rest : List ℕ) → IsOffset o → is_word (first rest) ≡ false
+offset_again : (o : Offset) (rest : List ℕ) → IsOffset o → is_value_byte (first rest) ≡ false
     → offset_at (offset o rest) ≡ Some (o, rest)
 unfolding offset_at
-offset_again local rest h ends = let e = word_offset (first rest) ends in rw (e.no_zulu, e.no_shift) refl
+offset_again local rest h ends = let e = ends_offset (first rest) ends in rw (e.no_zulu, e.no_shift) refl
 offset_again (zulu z) rest h ends = rw h refl
 offset_again (shift s hour minute) rest h ends =
     rw (shift_not s h.0, h.0, group_again 2 58 hour (minute ++ rest) h.1, count_again 2 minute rest h.2) refl
@@ -106,9 +106,9 @@ zulu_time z h = record { no_digit = grind (arith, nat_tests); no_dot = grind (ar
 shift_time : (s : ℕ) → (eqb s 43 || eqb s 45) ≡ true → EndsTime s
 shift_time s h = record { no_digit = grind (arith, nat_tests); no_dot = grind (arith, nat_tests) }
 
-offset_time : (o : Offset) (rest : List ℕ) → IsOffset o → is_word (first rest) ≡ false
+offset_time : (o : Offset) (rest : List ℕ) → IsOffset o → is_value_byte (first rest) ≡ false
     → EndsTime (first (offset o rest))
-offset_time local rest h ends = word_time (first rest) ends
+offset_time local rest h ends = ends_time (first rest) ends
 offset_time (zulu z) rest h ends = zulu_time z h
 offset_time (shift s hour minute) rest h ends = shift_time s h.0
 
@@ -124,14 +124,14 @@ date_first d rest h = count_first 4 d.year _ (omega arith) h.0
 
 no_join : (rest : List ℕ) → EndsValue rest → is_time_next rest ≡ false
 no_join rest ends =
-    let t : eqb (first rest) 84 ≡ false = not_big (first rest) ends.no_word in
-    let u : eqb (first rest) 116 ≡ false = not_small (first rest) ends.no_word in
+    let t : eqb (first rest) 84 ≡ false = not_big (first rest) ends.no_value_byte in
+    let u : eqb (first rest) 116 ≡ false = not_small (first rest) ends.no_value_byte in
     rw (t, u) ends.no_time
   where
-    not_big : (b : ℕ) → is_word b ≡ false → eqb b 84 ≡ false
+    not_big : (b : ℕ) → is_value_byte b ≡ false → eqb b 84 ≡ false
     not_big b h = grind (arith, nat_tests)
 
-    not_small : (b : ℕ) → is_word b ≡ false → eqb b 116 ≡ false
+    not_small : (b : ℕ) → is_value_byte b ≡ false → eqb b 116 ≡ false
     not_small b h = grind (arith, nat_tests)
 
 does_join : (b : ℕ) (text : List ℕ) → (eqb b 84 || eqb b 116 || eqb b 32) ≡ true
@@ -150,7 +150,7 @@ unfolding date_time_at
 dated_alone d rest h ends = rw (date_again d rest h, no_join rest ends) refl
 
 dated_both : (d : Date) (b : ℕ) (t : Time) (o : Offset) (rest : List ℕ) → IsDateTime (both d b t o)
-    → is_word (first rest) ≡ false → date_time_at (date d (b ∷ time t (offset o rest)))
+    → is_value_byte (first rest) ≡ false → date_time_at (date d (b ∷ time t (offset o rest)))
     ≡ Some (datetime (both d b t o), rest)
 unfolding date_time_at
 dated_both d b t o rest h ends =
@@ -162,10 +162,10 @@ dated_both d b t o rest h ends =
       offset_again o rest h.3 ends,
     ) refl
 
-timed_again : (t : Time) (rest : List ℕ) → IsTime t → is_word (first rest) ≡ false
+timed_again : (t : Time) (rest : List ℕ) → IsTime t → is_value_byte (first rest) ≡ false
     → local_time_at (time t rest) ≡ Some (datetime (only_time t), rest)
 unfolding local_time_at
-timed_again t rest h ends = rw (time_again t rest h (word_time (first rest) ends)) refl
+timed_again t rest h ends = rw (time_again t rest h (ends_time (first rest) ends)) refl
 
 number_dated : (d : Date) (more : List ℕ) → IsDate d → number_at (date d more) ≡ date_time_at (date d more)
 unfolding unsigned_at
@@ -181,9 +181,9 @@ number_timed t more h = number_unsigned (time t more) (time_first t more h) ∙
 pub datetime_again : (d : DateTime) (rest : List ℕ) → IsDateTime d → EndsValue rest
     → number_at (datetime_text d rest) ≡ Some (datetime d, rest)
 datetime_again (only_date d) rest h ends = number_dated d rest h ∙ dated_alone d rest h ends
-datetime_again (only_time t) rest h ends = number_timed t rest h ∙ timed_again t rest h ends.no_word
+datetime_again (only_time t) rest h ends = number_timed t rest h ∙ timed_again t rest h ends.no_value_byte
 datetime_again (both d b t o) rest h ends = number_dated d (b ∷ time t (offset o rest)) h.0 ∙
-    dated_both d b t o rest h ends.no_word
+    dated_both d b t o rest h ends.no_value_byte
 
 pub datetime_start : (d : DateTime) (rest : List ℕ) → IsDateTime d
     → is_start (first (datetime_text d rest)) ≡ true

@@ -81,10 +81,10 @@ ascii_bytes : (bytes : List ℕ) → All is_ascii bytes → Ascii bytes
 ascii_bytes [] h = tt
 ascii_bytes (b ∷ bytes) h = (ascii_byte b h.0, ascii_bytes bytes h.1)
 
-word_utf8 : (before content rest : List ℕ) → 0 < length content → All is_ascii content
+content_utf8 : (before content rest : List ℕ) → 0 < length content → All is_ascii content
     → IsUtf8 (before ++ (content ++ rest)) → IsUtf8 (content ++ rest) × IsUtf8 rest
-word_utf8 before [] rest some h u = absurd (omega arith)
-word_utf8 before (b ∷ content) rest some h u =
+content_utf8 before [] rest some h u = absurd (omega arith)
+content_utf8 before (b ∷ content) rest some h u =
     let one = utf8_from before (content ++ rest) b u (ascii_byte b h.0) in
     (one, utf8_behind (b ∷ content) rest (ascii_bytes (b ∷ content) h) one)
 
@@ -101,9 +101,9 @@ parts_utf8 MultiBasicString before content rest said h u =
     tripled_utf8 quote before content rest (omega arith) u
 parts_utf8 MultiLiteralString before content rest said h u =
     tripled_utf8 apostrophe before content rest (omega arith) u
-parts_utf8 Integer before content rest said h u = word_utf8 before content rest h.0 h.1 u
-parts_utf8 Float before content rest said h u = word_utf8 before content rest h.0 h.1 u
-parts_utf8 DateTime before content rest said h u = word_utf8 before content rest h.0 h.1 u
+parts_utf8 Integer before content rest said h u = content_utf8 before content rest h.0 h.1 u
+parts_utf8 Float before content rest said h u = content_utf8 before content rest h.0 h.1 u
+parts_utf8 DateTime before content rest said h u = content_utf8 before content rest h.0 h.1 u
 parts_utf8 _ before content rest said h u = absurd h
 
 -- ---- the range of a content

@@ -3,7 +3,7 @@ use Rattle.std.proofs.Common.{◌≡◌, ℕ, ◌<◌, Bool, true, false, eqb, L
 use Rattle.edit_syntax.specs.Numbers.{Sign, sign, is_decimal, are_digits, is_decimal_integer, Base, base_letter, base_digit, Exponent, exponent, IsExponent}
 use Rattle.edit_syntax.specs.Grammar.{Value, integer, float, datetime, value, IsValue}
 use Rattle.edit_syntax.specs.ReadingSteps.{first, front}
-use Rattle.edit_syntax.specs.ReadingNumbers.{is_marked, digits_at, whole_at, sign_of, past_sign, is_exponent_letter, exponent_at, fraction_read, whole_read, begins, decimal_at, based_at}
+use Rattle.edit_syntax.specs.ReadingNumbers.{or_underscore, digits_at, whole_at, sign_of, past_sign, is_exponent_letter, exponent_at, fraction_read, whole_read, begins, decimal_at, based_at}
 use Rattle.edit_syntax.proofs.TokenLaws.{bind_some, chosen, tested, some_is, first_is, first_of, at_drop, run_parts}
 use Rattle.std.proofs.lemmas.Bool.{and_parts}
 
@@ -24,17 +24,17 @@ digits_sound : (class : ℕ → Bool) (text : List ℕ) (x : List ℕ × List �
     → (text ≡ x.0 ++ x.1) × (are_digits class x.0 ≡ true)
 unfolding digits_at
 digits_sound class text x e =
-    let t = tested (are_digits class (front (is_marked class) text)) _ x e in
+    let t = tested (are_digits class (front (or_underscore class) text)) _ x e in
     subst (λ (y : List ℕ × List ℕ). (text ≡ y.0 ++ y.1) × (are_digits class y.0 ≡ true)) (some_is _ x t.1)
-    (run_parts (is_marked class) text, t.0)
+    (run_parts (or_underscore class) text, t.0)
 
 whole_sound : (text : List ℕ) (x : List ℕ × List ℕ) → whole_at text ≡ Some x → (text ≡ x.0 ++ x.1)
     × (is_decimal_integer x.0 ≡ true)
 unfolding whole_at
 whole_sound text x e =
-    let t = tested (is_decimal_integer (front (is_marked is_decimal) text)) _ x e in
+    let t = tested (is_decimal_integer (front (or_underscore is_decimal) text)) _ x e in
     subst (λ (y : List ℕ × List ℕ). (text ≡ y.0 ++ y.1) × (is_decimal_integer y.0 ≡ true)) (some_is _ x t.1)
-    (run_parts (is_marked is_decimal) text, t.0)
+    (run_parts (or_underscore is_decimal) text, t.0)
 
 sign_sound : (text : List ℕ) → text ≡ sign (sign_of text) (past_sign text)
 sign_sound text = go (eqb (first text) 43) (eqb (first text) 45) refl refl

@@ -38,16 +38,16 @@ pub record AreLine (ps : List Piece) : Type 0 where
   pub folds : FoldsAreWhole ps
 
 -- nothing, or a backslash first
-abbrev pub BeginsMarked : List Piece → Type 0
-BeginsMarked [] = Unit {0}
-BeginsMarked (p ∷ ps) = BeginsWithBackslash p
+abbrev pub BeginsEscaped : List Piece → Type 0
+BeginsEscaped [] = Unit {0}
+BeginsEscaped (p ∷ ps) = BeginsWithBackslash p
 
 -- the pieces behind the run of plain bytes, of a text that says this
 pub record Behind (bytes said : List ℕ) (rs : List Piece) : Type 0 where
   pub line : AreLine rs
   pub rest : drop (prefix_len is_unescaped bytes) bytes ≡ pieces quote rs []
   pub says : said ≡ take (prefix_len is_unescaped bytes) bytes ++ decoded_pieces quote rs
-  pub begins : BeginsMarked rs
+  pub begins : BeginsEscaped rs
 
 pub basic_unescaped : (b : ℕ) → is_basic_ch b ≡ true → is_unescaped b ≡ true
 basic_unescaped b h = let k = (basic_ch_not b h).1 in rw k refl
@@ -64,16 +64,16 @@ byte_behind b bytes said rs h more =
       begins = more.begins;
     }
 
-marked_behind : (p : Piece) (qs : List Piece) (bytes : List ℕ) → AreLine (p ∷ qs) → BeginsWithBackslash p
+escaped_behind : (p : Piece) (qs : List Piece) (bytes : List ℕ) → AreLine (p ∷ qs) → BeginsWithBackslash p
     → pieces quote (p ∷ qs) [] ≡ backslash ∷ bytes
     → Behind (pieces quote (p ∷ qs) []) (decoded_pieces quote (p ∷ qs)) (p ∷ qs)
-marked_behind p qs bytes line marked e =
+escaped_behind p qs bytes line escaped e =
     let k : prefix_len is_unescaped (pieces quote (p ∷ qs) []) ≡ 0 = ap (prefix_len is_unescaped) e in
     record {
       line = line;
       rest = rw k refl;
       says = rw k refl;
-      begins = marked;
+      begins = escaped;
     }
 
 pub run_behind : (qs : List Piece) → AreLine qs → (rs : List Piece)
@@ -82,11 +82,11 @@ run_behind [] h = ([], record { line = h; rest = refl; says = refl; begins = tt 
 run_behind (plain b ∷ qs) h =
     let more = run_behind qs (record { all = h.all.1; folds = h.folds }) in
     (more.0, byte_behind b (pieces quote qs []) (decoded_pieces quote qs) more.0 (basic_unescaped b h.all.0) more.1)
-run_behind (letter c ∷ qs) h = (letter c ∷ qs, marked_behind (letter c) qs (c ∷ pieces quote qs []) h tt refl)
+run_behind (letter c ∷ qs) h = (letter c ∷ qs, escaped_behind (letter c) qs (c ∷ pieces quote qs []) h tt refl)
 run_behind (short digits ∷ qs) h =
-    (short digits ∷ qs, marked_behind (short digits) qs (117 ∷ (digits ++ pieces quote qs [])) h tt refl)
+    (short digits ∷ qs, escaped_behind (short digits) qs (117 ∷ (digits ++ pieces quote qs [])) h tt refl)
 run_behind (long digits ∷ qs) h =
-    (long digits ∷ qs, marked_behind (long digits) qs (85 ∷ (digits ++ pieces quote qs [])) h tt refl)
+    (long digits ∷ qs, escaped_behind (long digits) qs (85 ∷ (digits ++ pieces quote qs [])) h tt refl)
 run_behind (feed lf ∷ qs) h =
     let more = run_behind qs (record { all = h.all.1; folds = h.folds }) in
     (more.0, byte_behind 10 (pieces quote qs []) (decoded_pieces quote qs) more.0 refl more.1)
@@ -98,7 +98,7 @@ run_behind (feed crlf ∷ qs) h =
     )
 run_behind (fold ws end more ∷ qs) h = (
   fold ws end more ∷ qs,
-  marked_behind (fold ws end more) qs
+  escaped_behind (fold ws end more) qs
       (ws ++ line_end end (spaces more (pieces quote qs []))) h tt refl,
 )
 run_behind (delimiter ∷ qs) h =

@@ -13,28 +13,28 @@ use Rattle.edit_syntax.specs.Reading.{first}
 use Rattle.edit_syntax.proofs.TokenLaws.{prefix_len_run}
 use Rattle.edit_syntax.proofs.PutBefore.{piece_rest}
 use Rattle.edit_syntax.proofs.DelimitedContents.{Ascii, utf8_behind}
-use Rattle.edit_syntax.proofs.EscapeRuns.{AreLine, BeginsMarked, run_behind, hexes_ascii, letter_ascii, blank_spacing, fold_spacing, spacings_ascii}
+use Rattle.edit_syntax.proofs.EscapeRuns.{AreLine, BeginsEscaped, run_behind, hexes_ascii, letter_ascii, blank_spacing, fold_spacing, spacings_ascii}
 
 -- ---- one turn
 
-marked_bytes : (p : Piece) → BeginsWithBackslash p → IsMultiPiece p → Ascii (piece quote p [])
-marked_bytes (plain b) marked fine = absurd marked
-marked_bytes (letter c) marked fine = (omega arith, (letter_ascii c fine, tt))
-marked_bytes (short digits) marked fine = (omega arith, (omega arith, hexes_ascii digits fine.1))
-marked_bytes (long digits) marked fine = (omega arith, (omega arith, hexes_ascii digits fine.1))
-marked_bytes (feed end) marked fine = absurd marked
-marked_bytes (fold ws e more) marked fine =
+escaped_bytes : (p : Piece) → BeginsWithBackslash p → IsMultiPiece p → Ascii (piece quote p [])
+escaped_bytes (plain b) escaped fine = absurd escaped
+escaped_bytes (letter c) escaped fine = (omega arith, (letter_ascii c fine, tt))
+escaped_bytes (short digits) escaped fine = (omega arith, (omega arith, hexes_ascii digits fine.1))
+escaped_bytes (long digits) escaped fine = (omega arith, (omega arith, hexes_ascii digits fine.1))
+escaped_bytes (feed end) escaped fine = absurd escaped
+escaped_bytes (fold ws e more) escaped fine =
     (omega arith, spacings_ascii (ws ++ line_end e (spaces more [])) (fold_spacing ws e more fine.0 fine.1))
-marked_bytes delimiter marked fine = absurd marked
+escaped_bytes delimiter escaped fine = absurd escaped
 
 -- a text may be cut behind an escape and behind a fold
 behind_piece : (p : Piece) (rest bytes : List ℕ) (len : ℕ) → BeginsWithBackslash p → IsMultiPiece p
     → IsUtf8 bytes
     → bytes ≡ piece quote p rest → len ≡ length (piece quote p []) → IsCharBoundary bytes len
     × (drop len bytes ≡ rest)
-behind_piece p rest bytes len marked fine u spelled e =
+behind_piece p rest bytes len escaped fine u spelled e =
     let whole = spelled ∙ piece_rest quote p rest in
-    let v = utf8_behind (piece quote p []) rest (marked_bytes p marked fine) (subst IsUtf8 whole u) in (
+    let v = utf8_behind (piece quote p []) rest (escaped_bytes p escaped fine) (subst IsUtf8 whole u) in (
       rw e (IsCharBoundary-at_seam bytes (piece quote p []) rest whole v),
       ap (drop len) whole ∙
           drop_at (piece quote p []) rest len (sym e),
@@ -62,19 +62,19 @@ escape_alone : (c : ℕ) → is_escape c ≡ true → is_spacing c ≡ false
 escape_alone c h = grind (arith, nat_tests)
 
 -- behind its backslash white space or a newline comes in a fold alone
-pub marked_next : (p : Piece) (rest : List ℕ) → BeginsWithBackslash p → IsMultiPiece p
+pub escaped_next : (p : Piece) (rest : List ℕ) → BeginsWithBackslash p → IsMultiPiece p
     → (is_spacing (get_or (piece quote p rest) 1 0) ≡ true → (ws : List ℕ) × (e : LineEnd)
     × (more : List Space) × (p ≡ fold ws e more))
     × (is_spacing (get_or (piece quote p rest) 1 0) ≡ false → IsEscape p × IsBasicPiece p)
-marked_next (plain b) rest marked fine = absurd marked
-marked_next (letter c) rest marked fine =
+escaped_next (plain b) rest escaped fine = absurd escaped
+escaped_next (letter c) rest escaped fine =
     ((λ h. absurd (true≢false (sym h ∙ escape_alone c fine))), λ h. (tt, fine))
-marked_next (short digits) rest marked fine = ((λ h. absurd (true≢false (sym h))), λ h. (tt, fine))
-marked_next (long digits) rest marked fine = ((λ h. absurd (true≢false (sym h))), λ h. (tt, fine))
-marked_next (feed e) rest marked fine = absurd marked
-marked_next (fold ws e more) rest marked fine =
+escaped_next (short digits) rest escaped fine = ((λ h. absurd (true≢false (sym h))), λ h. (tt, fine))
+escaped_next (long digits) rest escaped fine = ((λ h. absurd (true≢false (sym h))), λ h. (tt, fine))
+escaped_next (feed e) rest escaped fine = absurd escaped
+escaped_next (fold ws e more) rest escaped fine =
     ((λ h. (ws, e, more, refl)), λ h. absurd (true≢false (sym (fold_begins ws e more rest fine.0) ∙ h)))
-marked_next delimiter rest marked fine = absurd marked
+escaped_next delimiter rest escaped fine = absurd escaped
 
 -- where no white space follows a fold
 basic_alone : (b : ℕ) → is_basic_ch b ≡ true → is_blank b ≡ false → is_spacing b ≡ false
@@ -114,7 +114,7 @@ abbrev pub Takes : List ℕ → List ℕ → List ℕ → ℕ → Type 0
 Takes tail out new len = (p : Piece) (r : List ℕ) → BeginsWithBackslash p → IsMultiPiece p → IsFoldEnd p (first r)
     → tail ≡ piece quote p r → (new ≡ out ++ decoded_piece quote p) × (len ≡ length (piece quote p []))
 
-piece_turn : (ps rs : List Piece) (tail out new next : List ℕ) (len : ℕ) → AreLine rs → BeginsMarked rs
+piece_turn : (ps rs : List Piece) (tail out new next : List ℕ) (len : ℕ) → AreLine rs → BeginsEscaped rs
     → tail ≡ pieces quote rs [] → out ++ decoded_pieces quote rs ≡ decoded_pieces quote ps → IsUtf8 tail
     → 0 < length tail
     → Takes tail out new len → (IsCharBoundary tail len → next ≡ drop len tail) → Left ps next new
@@ -134,7 +134,7 @@ piece_turn ps (p ∷ rs) tail out new next len line begins spelled same u some t
 
 run_turn : (ps : List Piece) (rest out run tail : List ℕ) (l : Left ps rest out)
     → run ≡ take (prefix_len is_unescaped rest) rest → tail ≡ drop (prefix_len is_unescaped rest) rest
-    → (rs : List Piece) × AreLine rs × BeginsMarked rs × (tail ≡ pieces quote rs [])
+    → (rs : List Piece) × AreLine rs × BeginsEscaped rs × (tail ≡ pieces quote rs [])
     × ((out ++ run) ++ decoded_pieces quote rs ≡ decoded_pieces quote ps)
 run_turn ps rest out run tail l front back =
     let b = run_behind l.left l.line in
@@ -161,7 +161,7 @@ turn ps rest out run tail new next len l front back u some takes cut =
     let r = run_turn ps rest out run tail l front back in
     piece_turn ps r.0 tail (out ++ run) new next len r.1 r.2 r.3 r.4 u some takes cut
 
-last_says : (rs : List Piece) → BeginsMarked rs → pieces quote rs [] ≡ [] → decoded_pieces quote rs ≡ []
+last_says : (rs : List Piece) → BeginsEscaped rs → pieces quote rs [] ≡ [] → decoded_pieces quote rs ≡ []
 last_says [] begins e = refl
 last_says (plain b ∷ rs) begins e = absurd begins
 last_says (letter c ∷ rs) begins e = absurd cc
@@ -185,8 +185,8 @@ pub fold_taken : (p : Piece) (rest bytes out : List ℕ) (n : ℕ) → BeginsWit
     → IsFoldEnd p (first rest) → bytes ≡ piece quote p rest → is_spacing (get_or bytes 1 0) ≡ true
     → n ≡ prefix_len is_spacing (drop 1 bytes)
     → (out ≡ out ++ decoded_piece quote p) × (1 + n ≡ length (piece quote p []))
-fold_taken p rest bytes out n marked fine stops spelled here is =
-    let f = (marked_next p rest marked fine).0 (rw spelled at here) in
+fold_taken p rest bytes out n escaped fine stops spelled here is =
+    let f = (escaped_next p rest escaped fine).0 (rw spelled at here) in
     let q = fold f.0 f.1 f.2 in
     let fine2 : IsMultiPiece q = subst IsMultiPiece f.3 fine in
     let stops2 : IsFoldEnd q (first rest) = subst (λ (x : Piece). IsFoldEnd x (first rest)) f.3 stops in
@@ -199,7 +199,7 @@ pub escape_taken : (p : Piece) (rest bytes out new : List ℕ) (named n : ℕ) �
     → bytes ≡ piece quote p rest → is_spacing (get_or bytes 1 0) ≡ false → new ≡ out ++ encode_utf8 named
     → (IsEscape p → IsBasicPiece p → (encode_utf8 named ≡ decoded_piece quote p) × (n ≡ length (piece quote p [])))
     → (new ≡ out ++ decoded_piece quote p) × (n ≡ length (piece quote p []))
-escape_taken p rest bytes out new named n marked fine spelled other pushed names =
-    let e = (marked_next p rest marked fine).1 (rw spelled at other) in
+escape_taken p rest bytes out new named n escaped fine spelled other pushed names =
+    let e = (escaped_next p rest escaped fine).1 (rw spelled at other) in
     let a = names e.0 e.1 in
     (pushed ∙ ap (λ (b : List ℕ). out ++ b) a.0, a.1)

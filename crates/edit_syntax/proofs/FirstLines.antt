@@ -24,9 +24,9 @@ first_again bytes (more_lines l e ls) same h d =
     ap (line_at 80) same ∙ line_again 80 l (line_end e (lines ls))
     (first_good 80 l e ls (record { valid = h; shallow = d })) (end_of_line e (lines ls))
 
-marks_are : (form : Lines) → tokens_of_line (the_first form) (after_first form) ≡ tokens_of_first_line form
-marks_are (one_line l) = refl
-marks_are (more_lines l e ls) = refl
+tokens_are : (form : Lines) → tokens_of_line (the_first form) (after_first form) ≡ tokens_of_first_line form
+tokens_are (one_line l) = refl
+tokens_are (more_lines l e ls) = refl
 
 -- what was read is the first line
 pub first_is : (bytes rest : List ℕ) (x : Line) (old new : List SyntaxToken) (form : Lines)
@@ -39,7 +39,7 @@ first_is bytes rest x old new form e noted same h d =
     same_Some _ _ (sym e ∙ first_again bytes form same h d) in (
       ap (λ p. p.1) both,
       noted ∙ ap (λ (p : Line × List ℕ). old ++ tokens_of_line p.0 p.1) both ∙
-          ap (λ (m : List SyntaxToken). old ++ m) (marks_are form),
+          ap (λ (m : List SyntaxToken). old ++ m) (tokens_are form),
     )
 
 -- it is not that nothing is read

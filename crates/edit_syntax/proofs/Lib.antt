@@ -39,7 +39,7 @@ pub mod EscapeRuns
 pub mod Escapes
 pub mod LineContents
 pub mod DelimitedContents
-pub mod Kept
+pub mod DecodedSpans
 pub mod OwnContents
 pub mod Tables
 pub mod BasicLoop

@@ -44,38 +44,38 @@ spaces_none text = refl
 
 -- ---- pieces
 
-pub body_end : (mark n few : ℕ) (text : List ℕ) → is_closing_delimiter mark text ≡ true
-    → rest_of (body_at mark (suc n) few text) ≡ Some (drop 3 text)
+pub body_end : (delimiter_byte n few : ℕ) (text : List ℕ) → is_closing_delimiter delimiter_byte text ≡ true
+    → rest_of (body_at delimiter_byte (suc n) few text) ≡ Some (drop 3 text)
 unfolding body_at
-body_end mark n few text closed = rw closed refl
+body_end delimiter_byte n few text closed = rw closed refl
 
-pub body_turn : (mark n few : ℕ) (text after : List ℕ) → is_closing_delimiter mark text ≡ false
-    → eqb (first text) mark ≡ false → Some after ≡ rest_of (line_piece_at mark text)
-    → rest_of (body_at mark (suc n) few text) ≡ rest_of (body_at mark n 2 after)
+pub body_turn : (delimiter_byte n few : ℕ) (text after : List ℕ) → is_closing_delimiter delimiter_byte text ≡ false
+    → eqb (first text) delimiter_byte ≡ false → Some after ≡ rest_of (line_piece_at delimiter_byte text)
+    → rest_of (body_at delimiter_byte (suc n) few text) ≡ rest_of (body_at delimiter_byte n 2 after)
 unfolding body_at
-body_turn mark n few text after going other e = rw (going, other)
-    (first_turn after (line_piece_at mark text) (body_at mark n 2) e)
+body_turn delimiter_byte n few text after going other e = rw (going, other)
+    (first_turn after (line_piece_at delimiter_byte text) (body_at delimiter_byte n 2) e)
 
-pub body_stop : (mark n few : ℕ) (text : List ℕ) → is_closing_delimiter mark text ≡ false
-    → eqb (first text) mark ≡ false
-    → None ≡ rest_of (line_piece_at mark text) → rest_of (body_at mark (suc n) few text) ≡ None
+pub body_stop : (delimiter_byte n few : ℕ) (text : List ℕ) → is_closing_delimiter delimiter_byte text ≡ false
+    → eqb (first text) delimiter_byte ≡ false
+    → None ≡ rest_of (line_piece_at delimiter_byte text) → rest_of (body_at delimiter_byte (suc n) few text) ≡ None
 unfolding body_at
-body_stop mark n few text going other e = rw (going, other)
-    (first_stop (line_piece_at mark text) (body_at mark n 2) e)
+body_stop delimiter_byte n few text going other e = rw (going, other)
+    (first_stop (line_piece_at delimiter_byte text) (body_at delimiter_byte n 2) e)
 
-pub body_delimiter : (mark n few less : ℕ) (text : List ℕ) → few ≡ suc less
-    → is_closing_delimiter mark text ≡ false
-    → eqb (first text) mark ≡ true → rest_of (body_at mark (suc n) few text)
-    ≡ rest_of (body_at mark n less (drop 1 text))
+pub body_delimiter : (delimiter_byte n few less : ℕ) (text : List ℕ) → few ≡ suc less
+    → is_closing_delimiter delimiter_byte text ≡ false
+    → eqb (first text) delimiter_byte ≡ true → rest_of (body_at delimiter_byte (suc n) few text)
+    ≡ rest_of (body_at delimiter_byte n less (drop 1 text))
 unfolding body_at
-body_delimiter mark n few less text one going here = rw (one, going, here)
-    (rest_behind delimiter (body_at mark n less (drop 1 text)))
+body_delimiter delimiter_byte n few less text one going here = rw (one, going, here)
+    (rest_behind delimiter (body_at delimiter_byte n less (drop 1 text)))
 
-pub body_full : (mark n few : ℕ) (text : List ℕ) → few ≡ 0 → is_closing_delimiter mark text ≡ false
-    → eqb (first text) mark ≡ true → rest_of (body_at mark (suc n) few text) ≡ None
+pub body_full : (delimiter_byte n few : ℕ) (text : List ℕ) → few ≡ 0 → is_closing_delimiter delimiter_byte text ≡ false
+    → eqb (first text) delimiter_byte ≡ true → rest_of (body_at delimiter_byte (suc n) few text) ≡ None
 unfolding body_at
-body_full mark n few text none going here = rw (none, going, here) refl
+body_full delimiter_byte n few text none going here = rw (none, going, here) refl
 
-pub body_none : (mark few : ℕ) (text : List ℕ) → rest_of (body_at mark 0 few text) ≡ None
+pub body_none : (delimiter_byte few : ℕ) (text : List ℕ) → rest_of (body_at delimiter_byte 0 few text) ≡ None
 unfolding body_at
-body_none mark few text = refl
+body_none delimiter_byte few text = refl

@@ -13,12 +13,12 @@ use Rattle.edit_syntax.proofs.PieceReadAgain.{basic_no_break, literal_no_break, 
 -- ---- all pieces
 
 -- what pieces of one kind of string need to be read again
-record Rereads (mark : ℕ) (valid : Piece → Type 0) : Type 0 where
-  no_blank : is_blank mark ≡ false
-  no_break : is_line_break mark ≡ false
+record Rereads (delimiter_byte : ℕ) (valid : Piece → Type 0) : Type 0 where
+  no_blank : is_blank delimiter_byte ≡ false
+  no_break : is_line_break delimiter_byte ≡ false
   again : (p : Piece) (rest : List ℕ) → valid p → IsOther p → FoldEnds p rest
-      → line_piece_at mark (piece mark p rest) ≡ Some (p, rest)
-  other : (p : Piece) (rest : List ℕ) → valid p → IsOther p → eqb (first (piece mark p rest)) mark ≡ false
+      → line_piece_at delimiter_byte (piece delimiter_byte p rest) ≡ Some (p, rest)
+  other : (p : Piece) (rest : List ℕ) → valid p → IsOther p → eqb (first (piece delimiter_byte p rest)) delimiter_byte ≡ false
   plain_other : (b : ℕ) → valid (plain b) → is_line_break b ≡ false
 
 basic_rereads : Rereads quote IsMultiPiece
@@ -59,31 +59,31 @@ no_space_byte b rest h g =
     rw (h, not_lf, not_cr) refl
 
 -- where no piece of white space comes first, no white space does
-spaces_over : (mark : ℕ) (valid : Piece → Type 0) → Rereads mark valid → (ps : List Piece) (rest : List ℕ)
+spaces_over : (delimiter_byte : ℕ) (valid : Piece → Type 0) → Rereads delimiter_byte valid → (ps : List Piece) (rest : List ℕ)
     → AllByRecursion valid ps → begins_with_space ps ≡ false
-    → begins_space (pieces mark ps (three mark rest)) ≡ false
-spaces_over mark valid kind [] rest h e = no_space_byte mark
-    (mark ∷ (mark ∷ rest)) kind.no_blank kind.no_break
-spaces_over mark valid kind (plain b ∷ ps) rest h e = no_space_byte b (pieces mark ps (three mark rest)) e
+    → begins_space (pieces delimiter_byte ps (three delimiter_byte rest)) ≡ false
+spaces_over delimiter_byte valid kind [] rest h e = no_space_byte delimiter_byte
+    (delimiter_byte ∷ (delimiter_byte ∷ rest)) kind.no_blank kind.no_break
+spaces_over delimiter_byte valid kind (plain b ∷ ps) rest h e = no_space_byte b (pieces delimiter_byte ps (three delimiter_byte rest)) e
     (kind.plain_other b h.0)
-spaces_over mark valid kind (letter c ∷ ps) rest h e = refl
-spaces_over mark valid kind (short digits ∷ ps) rest h e = refl
-spaces_over mark valid kind (long digits ∷ ps) rest h e = refl
-spaces_over mark valid kind (feed end ∷ ps) rest h e = absurd (true≢false e)
-spaces_over mark valid kind (fold ws end more ∷ ps) rest h e = refl
-spaces_over mark valid kind (delimiter ∷ ps) rest h e = no_space_byte mark
-    (pieces mark ps (three mark rest)) kind.no_blank kind.no_break
+spaces_over delimiter_byte valid kind (letter c ∷ ps) rest h e = refl
+spaces_over delimiter_byte valid kind (short digits ∷ ps) rest h e = refl
+spaces_over delimiter_byte valid kind (long digits ∷ ps) rest h e = refl
+spaces_over delimiter_byte valid kind (feed end ∷ ps) rest h e = absurd (true≢false e)
+spaces_over delimiter_byte valid kind (fold ws end more ∷ ps) rest h e = refl
+spaces_over delimiter_byte valid kind (delimiter ∷ ps) rest h e = no_space_byte delimiter_byte
+    (pieces delimiter_byte ps (three delimiter_byte rest)) kind.no_blank kind.no_break
 
-fold_ends : (mark : ℕ) (valid : Piece → Type 0) → Rereads mark valid
+fold_ends : (delimiter_byte : ℕ) (valid : Piece → Type 0) → Rereads delimiter_byte valid
     → (p : Piece) (ps : List Piece) (rest : List ℕ) → AllByRecursion valid ps → FoldsAreWhole (p ∷ ps)
-    → FoldEnds p (pieces mark ps (three mark rest))
-fold_ends mark valid kind (plain b) ps rest h w = tt
-fold_ends mark valid kind (letter c) ps rest h w = tt
-fold_ends mark valid kind (short digits) ps rest h w = tt
-fold_ends mark valid kind (long digits) ps rest h w = tt
-fold_ends mark valid kind (feed e) ps rest h w = tt
-fold_ends mark valid kind (fold ws e more) ps rest h w = spaces_over mark valid kind ps rest h w.0
-fold_ends mark valid kind delimiter ps rest h w = tt
+    → FoldEnds p (pieces delimiter_byte ps (three delimiter_byte rest))
+fold_ends delimiter_byte valid kind (plain b) ps rest h w = tt
+fold_ends delimiter_byte valid kind (letter c) ps rest h w = tt
+fold_ends delimiter_byte valid kind (short digits) ps rest h w = tt
+fold_ends delimiter_byte valid kind (long digits) ps rest h w = tt
+fold_ends delimiter_byte valid kind (feed e) ps rest h w = tt
+fold_ends delimiter_byte valid kind (fold ws e more) ps rest h w = spaces_over delimiter_byte valid kind ps rest h w.0
+fold_ends delimiter_byte valid kind delimiter ps rest h w = tt
 
 folds_behind : (p : Piece) (ps : List Piece) → FoldsAreWhole (p ∷ ps) → FoldsAreWhole ps
 folds_behind (plain b) ps h = h
@@ -103,25 +103,25 @@ runs_behind n (feed e) ps o h = h
 runs_behind n (fold ws e more) ps o h = h
 runs_behind n delimiter ps o h = absurd o
 
-closes_other : (mark : ℕ) (text : List ℕ) → eqb (first text) mark ≡ false
-    → is_closing_delimiter mark text ≡ false
-closes_other mark text h = rw h refl
+closes_other : (delimiter_byte : ℕ) (text : List ℕ) → eqb (first text) delimiter_byte ≡ false
+    → is_closing_delimiter delimiter_byte text ≡ false
+closes_other delimiter_byte text h = rw h refl
 
-closes_end : (mark : ℕ) (rest : List ℕ) → eqb (first rest) mark ≡ false
-    → is_closing_delimiter mark (three mark rest) ≡ true
-closes_end mark rest h = rw (eq-eqb mark mark refl, h) refl
+closes_end : (delimiter_byte : ℕ) (rest : List ℕ) → eqb (first rest) delimiter_byte ≡ false
+    → is_closing_delimiter delimiter_byte (three delimiter_byte rest) ≡ true
+closes_end delimiter_byte rest h = rw (eq-eqb delimiter_byte delimiter_byte refl, h) refl
 
-closes_four : (mark : ℕ) (rest : List ℕ)
-    → is_closing_delimiter mark (mark ∷ (mark ∷ (mark ∷ (mark ∷ rest)))) ≡ false
-closes_four mark rest = rw (eq-eqb mark mark refl) refl
+closes_four : (delimiter_byte : ℕ) (rest : List ℕ)
+    → is_closing_delimiter delimiter_byte (delimiter_byte ∷ (delimiter_byte ∷ (delimiter_byte ∷ (delimiter_byte ∷ rest)))) ≡ false
+closes_four delimiter_byte rest = rw (eq-eqb delimiter_byte delimiter_byte refl) refl
 
-closes_second : (mark : ℕ) (text : List ℕ) → eqb (first text) mark ≡ false
-    → is_closing_delimiter mark (mark ∷ text) ≡ false
-closes_second mark text h = rw (eq-eqb mark mark refl, h) refl
+closes_second : (delimiter_byte : ℕ) (text : List ℕ) → eqb (first text) delimiter_byte ≡ false
+    → is_closing_delimiter delimiter_byte (delimiter_byte ∷ text) ≡ false
+closes_second delimiter_byte text h = rw (eq-eqb delimiter_byte delimiter_byte refl, h) refl
 
-closes_third : (mark : ℕ) (text : List ℕ) → eqb (first text) mark ≡ false
-    → is_closing_delimiter mark (mark ∷ (mark ∷ text)) ≡ false
-closes_third mark text h = rw (eq-eqb mark mark refl, h) refl
+closes_third : (delimiter_byte : ℕ) (text : List ℕ) → eqb (first text) delimiter_byte ≡ false
+    → is_closing_delimiter delimiter_byte (delimiter_byte ∷ (delimiter_byte ∷ text)) ≡ false
+closes_third delimiter_byte text h = rw (eq-eqb delimiter_byte delimiter_byte refl, h) refl
 
 too_many : (few : ℕ) (ps : List Piece) → few ≤ 2 → RunsFit few (delimiter ∷ (delimiter ∷ (delimiter ∷ ps)))
     → ⊥
@@ -131,25 +131,25 @@ too_many (suc (suc zero)) ps le h = h
 too_many (suc (suc (suc n))) ps le h = absurd (omega arith)
 
 -- behind a delimiter that is text the string is not over
-closes_delimiter : (mark : ℕ) (valid : Piece → Type 0) → Rereads mark valid
+closes_delimiter : (delimiter_byte : ℕ) (valid : Piece → Type 0) → Rereads delimiter_byte valid
     → (few : ℕ) (ps : List Piece) (rest : List ℕ) → few ≤ 2 → AllByRecursion valid ps
     → RunsFit few (delimiter ∷ ps)
-    → is_closing_delimiter mark (mark ∷ pieces mark ps (three mark rest)) ≡ false
-closes_delimiter mark valid kind few [] rest le h runs = closes_four mark rest
-closes_delimiter mark valid kind few (q ∷ []) rest le h runs = elim (sort q) [
-  | inl e ↦ rw e (closes_four mark (mark ∷ rest))
-  | inr o ↦ closes_second mark (piece mark q (three mark rest)) (kind.other q (three mark rest) h.0 o)
+    → is_closing_delimiter delimiter_byte (delimiter_byte ∷ pieces delimiter_byte ps (three delimiter_byte rest)) ≡ false
+closes_delimiter delimiter_byte valid kind few [] rest le h runs = closes_four delimiter_byte rest
+closes_delimiter delimiter_byte valid kind few (q ∷ []) rest le h runs = elim (sort q) [
+  | inl e ↦ rw e (closes_four delimiter_byte (delimiter_byte ∷ rest))
+  | inr o ↦ closes_second delimiter_byte (piece delimiter_byte q (three delimiter_byte rest)) (kind.other q (three delimiter_byte rest) h.0 o)
 ]
-closes_delimiter mark valid kind few (q ∷ r ∷ ps) rest le h runs = elim (sort q) [
+closes_delimiter delimiter_byte valid kind few (q ∷ r ∷ ps) rest le h runs = elim (sort q) [
   | inl e ↦ elim (sort r) [
     | inl f ↦ absurd (too_many few ps le
         (subst (λ (x : Piece). RunsFit few (delimiter ∷ (delimiter ∷ (x ∷ ps)))) f
         (subst (λ (x : Piece). RunsFit few (delimiter ∷ (x ∷ (r ∷ ps)))) e runs)))
-    | inr o ↦ rw e (closes_third mark (piece mark r (pieces mark ps (three mark rest)))
-        (kind.other r (pieces mark ps (three mark rest)) h.1.0 o))
+    | inr o ↦ rw e (closes_third delimiter_byte (piece delimiter_byte r (pieces delimiter_byte ps (three delimiter_byte rest)))
+        (kind.other r (pieces delimiter_byte ps (three delimiter_byte rest)) h.1.0 o))
   ]
-  | inr o ↦ closes_second mark (piece mark q (pieces mark (r ∷ ps) (three mark rest)))
-      (kind.other q (pieces mark (r ∷ ps) (three mark rest)) h.0 o)
+  | inr o ↦ closes_second delimiter_byte (piece delimiter_byte q (pieces delimiter_byte (r ∷ ps) (three delimiter_byte rest)))
+      (kind.other q (pieces delimiter_byte (r ∷ ps) (three delimiter_byte rest)) h.0 o)
 ]
 
 -- pieces that are valid, in a string
@@ -159,46 +159,46 @@ record AreFine (valid : Piece → Type 0) (few : ℕ) (ps : List Piece) : Type 0
   folds : FoldsAreWhole ps
   bound : few ≤ 2
 
-delimiter_again : (mark : ℕ) (valid : Piece → Type 0) → Rereads mark valid
+delimiter_again : (delimiter_byte : ℕ) (valid : Piece → Type 0) → Rereads delimiter_byte valid
     → (n few : ℕ) (ps : List Piece) (rest : List ℕ) → AreFine valid few (delimiter ∷ ps)
-    → ((less : ℕ) → AreFine valid less ps → body_at mark n less (pieces mark ps (three mark rest))
-    ≡ Some (ps, rest)) → body_at mark (suc n) few (mark ∷ pieces mark ps (three mark rest))
+    → ((less : ℕ) → AreFine valid less ps → body_at delimiter_byte n less (pieces delimiter_byte ps (three delimiter_byte rest))
+    ≡ Some (ps, rest)) → body_at delimiter_byte (suc n) few (delimiter_byte ∷ pieces delimiter_byte ps (three delimiter_byte rest))
     ≡ Some (delimiter ∷ ps, rest)
 unfolding body_at
-delimiter_again mark valid kind n zero ps rest h others = absurd h.runs
-delimiter_again mark valid kind n (suc less) ps rest h others =
+delimiter_again delimiter_byte valid kind n zero ps rest h others = absurd h.runs
+delimiter_again delimiter_byte valid kind n (suc less) ps rest h others =
     let more = others less
     (record { all = h.all.1; runs = h.runs; folds = h.folds; bound = let k = h.bound in omega arith }) in
     rw (
-      closes_delimiter mark valid kind (suc less) ps rest h.bound h.all.1 h.runs,
-      eq-eqb mark mark refl,
+      closes_delimiter delimiter_byte valid kind (suc less) ps rest h.bound h.all.1 h.runs,
+      eq-eqb delimiter_byte delimiter_byte refl,
       more,
     ) refl
 
-body_again : (mark : ℕ) (valid : Piece → Type 0) → Rereads mark valid
-    → (n few : ℕ) (ps : List Piece) (rest : List ℕ) → AreFine valid few ps → eqb (first rest) mark ≡ false
+body_again : (delimiter_byte : ℕ) (valid : Piece → Type 0) → Rereads delimiter_byte valid
+    → (n few : ℕ) (ps : List Piece) (rest : List ℕ) → AreFine valid few ps → eqb (first rest) delimiter_byte ≡ false
     → length ps < n
-    → body_at mark n few (pieces mark ps (three mark rest)) ≡ Some (ps, rest)
+    → body_at delimiter_byte n few (pieces delimiter_byte ps (three delimiter_byte rest)) ≡ Some (ps, rest)
 unfolding body_at
-body_again mark valid kind zero few ps rest h ends lt = absurd (omega arith)
-body_again mark valid kind (suc n) few [] rest h ends lt = rw (closes_end mark rest ends) refl
-body_again mark valid kind (suc n) few (p ∷ ps) rest h ends lt = elim (sort p) [
+body_again delimiter_byte valid kind zero few ps rest h ends lt = absurd (omega arith)
+body_again delimiter_byte valid kind (suc n) few [] rest h ends lt = rw (closes_end delimiter_byte rest ends) refl
+body_again delimiter_byte valid kind (suc n) few (p ∷ ps) rest h ends lt = elim (sort p) [
   | inl e ↦
       let fine : AreFine valid few (delimiter ∷ ps) = subst (λ (x : Piece). AreFine valid few (x ∷ ps)) e h in
-      rw e (delimiter_again mark valid kind n few ps rest fine
-      (λ less g. body_again mark valid kind n less ps rest g ends (omega arith)))
+      rw e (delimiter_again delimiter_byte valid kind n few ps rest fine
+      (λ less g. body_again delimiter_byte valid kind n less ps rest g ends (omega arith)))
   | inr o ↦
-      let tail = pieces mark ps (three mark rest) in
+      let tail = pieces delimiter_byte ps (three delimiter_byte rest) in
       let other = kind.other p tail h.all.0 o in
-      let here = kind.again p tail h.all.0 o (fold_ends mark valid kind p ps rest h.all.1 h.folds) in
-      let more = body_again mark valid kind n 2 ps rest
+      let here = kind.again p tail h.all.0 o (fold_ends delimiter_byte valid kind p ps rest h.all.1 h.folds) in
+      let more = body_again delimiter_byte valid kind n 2 ps rest
       (record {
         all = h.all.1;
         runs = runs_behind few p ps o h.runs;
         folds = folds_behind p ps h.folds;
         bound = omega arith;
       }) ends (omega arith) in
-      rw (closes_other mark (piece mark p tail) other, other, here, more) refl
+      rw (closes_other delimiter_byte (piece delimiter_byte p tail) other, other, here, more) refl
 ]
 
 pub multi_basic_again : (ps : List Piece) (rest : List ℕ) → AllByRecursion IsMultiPiece ps → RunsFit 2 ps

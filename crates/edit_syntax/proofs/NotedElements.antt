@@ -35,12 +35,12 @@ elements_more : (read : List ℕ → Read Value) (count : ℕ) (text r : List �
 unfolding elements_at
 elements_more read count text r v unclosed e sign = rw (unclosed, e, sign) refl
 
-put_marks : (n : ℕ) (read : List ℕ → Read Value) → Sound n read
+put_tokens : (n : ℕ) (read : List ℕ → Read Value) → Sound n read
     → (count : ℕ) (r : List ℕ) (v : Value) (es : Elements) (after : List ℕ)
     → eqb (first (past_gap r)) comma ≡ true
     → elements_at read count (past_gap (drop 1 (past_gap r))) ≡ Some (es, after)
     → tokens_of_array (put v r es) after ≡ tokens_of_value v r ++ tokens_of_array es after
-put_marks n read sound count r v es after sign e =
+put_tokens n read sound count r v es after sign e =
     let next = drop 1 (past_gap r) in
     let more = elements es (right_bracket ∷ after) in
     let others = elements_sound n read sound count (past_gap next) (es, after) e in
@@ -70,7 +70,7 @@ elements_turn n read sound total count text r v old out new unclosed e sign note
             b.1,
             ap (λ (m : List SyntaxToken). m ++ tokens_of_array x.0 x.1) noted ∙
                 append_assoc out (tokens_of_value v r) (tokens_of_array x.0 x.1) ∙
-                ap (λ (m : List SyntaxToken). out ++ m) (sym (put_marks n read sound count r v x.0 x.1 sign h)) ∙
+                ap (λ (m : List SyntaxToken). out ++ m) (sym (put_tokens n read sound count r v x.0 x.1 sign h)) ∙
                 b.2,
           );
       none = λ h. before.none (step ∙ rw h refl);

@@ -31,11 +31,11 @@ unfolding header_at
 header_here bytes key_end rest k key closed = rw (key, ← closed) refl
 
 -- the marks of a key and of the header behind it
-header_marks : (kind : TokenKind) (old mid new : List SyntaxToken) (bytes key_end rest tail : List ℕ) (k : Key)
+header_tokens : (kind : TokenKind) (old mid new : List SyntaxToken) (bytes key_end rest tail : List ℕ) (k : Key)
     (s : Statement) → mid ≡ old ++ tokens_of_key k key_end → new ≡ mid ++ (token_between kind bytes rest ∷ [])
     → key_end ≡ tail → bytes ≡ statement s rest
     → new ≡ old ++ (tokens_of_key k tail ++ (token_between kind (statement s rest) rest ∷ []))
-header_marks kind old mid new bytes key_end rest tail k s noted ended e f =
+header_tokens kind old mid new bytes key_end rest tail k s noted ended e f =
     ended ∙ ap (λ (m : List SyntaxToken). m ++ (token_between kind bytes rest ∷ [])) noted ∙
     append_assoc old (tokens_of_key k key_end) (token_between kind bytes rest ∷ [])
     ∙ ap (λ (t : List ℕ). old ++ (tokens_of_key k t ++ (token_between kind bytes rest ∷ []))) e ∙
@@ -55,7 +55,7 @@ header_noted old mid new bytes key_end rest k opened key noted closed ended =
     in (
       s,
       here,
-      header_marks kinds.Header old mid new bytes key_end rest
+      header_tokens kinds.Header old mid new bytes key_end rest
           (blanks key_end ++ (right_bracket ∷ rest)) k s noted ended tail sound.0,
     )
 
@@ -83,7 +83,7 @@ element_noted old mid new bytes key_end inner rest k opened again key noted one 
     ap (λ (r : List ℕ). right_bracket ∷ r) (past_some right_bracket inner rest (omega arith) (sym two)) in (
       s,
       here,
-      header_marks kinds.ElementHeader old mid new bytes key_end rest
+      header_tokens kinds.ElementHeader old mid new bytes key_end rest
           (blanks key_end ++ end) k s noted ended (blank_parts key_end end close) sound.0,
     )
 

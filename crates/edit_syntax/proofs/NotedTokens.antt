@@ -28,29 +28,29 @@ unmapped None e = refl
 
 -- ---- tokens
 
-told_back : {A : Type 0} (kind : A → TokenKind) (k : TokenKind) (rest : List ℕ) (read : Read A)
+token_back : {A : Type 0} (kind : A → TokenKind) (k : TokenKind) (rest : List ℕ) (read : Read A)
     → Some (k, rest) ≡ parsed_token kind read → (v : A) × (read ≡ Some (v, rest)) × (k ≡ kind v)
-told_back kind k rest (Some x) e =
+token_back kind k rest (Some x) e =
     let pairs = some_is (k, rest) (kind x.0, x.1) e in
     let b : rest ≡ x.1 = ap (λ (p : TokenKind × List ℕ). p.1) pairs in
     (x.0, ap (λ (r : List ℕ). Some (x.0, r)) (sym b), ap (λ (p : TokenKind × List ℕ). p.0) pairs)
-told_back kind k rest None e = absurd cc
+token_back kind k rest None e = absurd cc
 
 -- the mark that was noted is that of the token's form
-same_mark : (j k : TokenKind) (a b rest : List ℕ) → j ≡ k → a ≡ b
+same_token : (j k : TokenKind) (a b rest : List ℕ) → j ≡ k → a ≡ b
     → token_between j a rest ≡ token_between k b rest
-same_mark j k a b rest e f = rw (e, f) refl
+same_token j k a b rest e f = rw (e, f) refl
 
 pub part_noted : (old new : List SyntaxToken) (k : TokenKind) (text rest : List ℕ)
     → Some (k, rest) ≡ parsed_token part_kind (part_at text) → new ≡ old ++ (token_between k text rest ∷ [])
     → (x : Part) × (part_at text ≡ Some (x, rest)) × (new ≡ old ++ (token_of_part x rest ∷ []))
-part_noted old new k text rest told noted =
-    let v = told_back part_kind k rest (part_at text) told in
+part_noted old new k text rest parsed noted =
+    let v = token_back part_kind k rest (part_at text) parsed in
     let sound = part_sound text (v.0, rest) v.1 in (
       v.0,
       v.1,
       noted ∙ ap (λ (m : SyntaxToken). old ++ (m ∷ []))
-          (same_mark k (part_kind v.0) text (part v.0 rest) rest v.2 sound.0),
+          (same_token k (part_kind v.0) text (part v.0 rest) rest v.2 sound.0),
     )
 
 -- whatever parts are read from here on complete the key
@@ -75,10 +75,10 @@ unfolding key_at
 key_partless text e = rw e refl
 
 -- a part and those behind it
-parts_marks : (old : List SyntaxToken) (n : ℕ) (rest : List ℕ) (p : Part) (x : List Dotted × List ℕ)
+parts_tokens : (old : List SyntaxToken) (n : ℕ) (rest : List ℕ) (p : Part) (x : List Dotted × List ℕ)
     → dotted_at n rest ≡ Some x → (old ++ (token_of_part p rest ∷ [])) ++ tokens_of_dotted x.0 x.1
     ≡ old ++ (token_of_part p (dotted x.0 x.1) ∷ tokens_of_dotted x.0 x.1)
-parts_marks old n rest p x e =
+parts_tokens old n rest p x e =
     append_assoc old (token_of_part p rest ∷ []) (tokens_of_dotted x.0 x.1) ∙
     ap (λ (t : List ℕ). old ++ (token_of_part p t ∷ tokens_of_dotted x.0 x.1)) (dotted_sound n rest x e).0
 
@@ -88,7 +88,7 @@ key_begins old new text rest p e noted = record {
   some = λ x h. (
     record { first = p; others = x.0 },
     key_here text rest x.1 p x.0 e h,
-    ap (λ (m : List SyntaxToken). m ++ tokens_of_dotted x.0 x.1) noted ∙ parts_marks old (length text) rest p x h,
+    ap (λ (m : List SyntaxToken). m ++ tokens_of_dotted x.0 x.1) noted ∙ parts_tokens old (length text) rest p x h,
   );
   none = λ h. key_stops text rest p e h;
 }
@@ -128,7 +128,7 @@ key_turn total n text rest p old out new sign e noted before =
           let b = before.some (ds, x.1) (step ∙ rw h refl) in (
             b.0,
             b.1,
-            ap (λ (m : List SyntaxToken). m ++ tokens_of_dotted x.0 x.1) noted ∙ parts_marks out n rest p x h ∙
+            ap (λ (m : List SyntaxToken). m ++ tokens_of_dotted x.0 x.1) noted ∙ parts_tokens out n rest p x h ∙
                 b.2,
           );
       none = λ h. before.none (step ∙ rw h refl);
@@ -169,32 +169,32 @@ key_failed total n text old new out e e2 r was same sign h before =
     subst (λ (x : Result (Bor (List ℕ)) ReadError). AppendsTokens tokens_of_key old new x total) (sym was)
     (λ other. key_fail total n text old.items out sign (h (λ m. other (same ∙ m))) before)
 
-flat_marks : (v : Value) (rest : List ℕ) → depth v ≡ 0 → tokens_of_value v rest
+flat_tokens : (v : Value) (rest : List ℕ) → depth v ≡ 0 → tokens_of_value v rest
     ≡ token_between (value_kind v) (value v rest) rest ∷ []
-flat_marks (basic ps) rest e = refl
-flat_marks (literal text) rest e = refl
-flat_marks (multi_basic ps) rest e = refl
-flat_marks (multi_literal ps) rest e = refl
-flat_marks (boolean true) rest e = refl
-flat_marks (boolean false) rest e = refl
-flat_marks (integer n) rest e = refl
-flat_marks (float f) rest e = refl
-flat_marks (datetime d) rest e = refl
-flat_marks (array g es) rest e = absurd (omega arith)
-flat_marks (inline g ms) rest e = absurd (omega arith)
+flat_tokens (basic ps) rest e = refl
+flat_tokens (literal text) rest e = refl
+flat_tokens (multi_basic ps) rest e = refl
+flat_tokens (multi_literal ps) rest e = refl
+flat_tokens (boolean true) rest e = refl
+flat_tokens (boolean false) rest e = refl
+flat_tokens (integer n) rest e = refl
+flat_tokens (float f) rest e = refl
+flat_tokens (datetime d) rest e = refl
+flat_tokens (array g es) rest e = absurd (omega arith)
+flat_tokens (inline g ms) rest e = absurd (omega arith)
 
 pub scalar_noted : (old new : List SyntaxToken) (k : TokenKind) (text rest : List ℕ)
     → Some (k, rest) ≡ parsed_token value_kind (scalar_at text)
     → new ≡ old ++ (token_between k text rest ∷ [])
     → (v : Value) × (scalar_at text ≡ Some (v, rest)) × (new ≡ old ++ tokens_of_value v rest)
-scalar_noted old new k text rest told noted =
-    let v = told_back value_kind k rest (scalar_at text) told in
+scalar_noted old new k text rest parsed noted =
+    let v = token_back value_kind k rest (scalar_at text) parsed in
     let sound = scalar_sound 0 text (v.0, rest) v.1 in
     let flat : depth v.0 ≡ 0 = let h = sound.1.shallow in omega arith in
-    let marks = flat_marks v.0 rest flat in (
+    let tokens = flat_tokens v.0 rest flat in (
       v.0,
       v.1,
       noted ∙ ap (λ (m : SyntaxToken). old ++ (m ∷ []))
-          (same_mark k (value_kind v.0) text (value v.0 rest) rest v.2 sound.0) ∙
-          ap (λ (m : List SyntaxToken). old ++ m) (sym marks),
+          (same_token k (value_kind v.0) text (value v.0 rest) rest v.2 sound.0) ∙
+          ap (λ (m : List SyntaxToken). old ++ m) (sym tokens),
     )

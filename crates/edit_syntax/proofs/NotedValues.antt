@@ -97,12 +97,12 @@ members_more : (read : List ℕ → Read Value) (count : ℕ) (text r : List ℕ
 unfolding members_at
 members_more read count text r p unclosed e sign = rw (unclosed, e, sign) refl
 
-made_marks : (n : ℕ) (read : List ℕ → Read Value) → Sound n read
+made_tokens : (n : ℕ) (read : List ℕ → Read Value) → Sound n read
     → (count : ℕ) (r : List ℕ) (p : Pair) (ms : Members) (after : List ℕ)
     → eqb (first (past_gap r)) comma ≡ true
     → members_at read count (past_gap (drop 1 (past_gap r))) ≡ Some (ms, after)
     → tokens_of_inline_table (made p r ms) after ≡ tokens_of_pair p r ++ tokens_of_inline_table ms after
-made_marks n read sound count r p ms after sign e =
+made_tokens n read sound count r p ms after sign e =
     let next = drop 1 (past_gap r) in
     let more = members ms (right_brace ∷ after) in
     let others = members_sound n read sound count (past_gap next) (ms, after) e in
@@ -141,7 +141,7 @@ members_turn n read sound total count text r p old out new unclosed e sign noted
             b.1,
             ap (λ (m : List SyntaxToken). m ++ tokens_of_inline_table x.0 x.1) noted ∙
                 append_assoc out (tokens_of_pair p r) (tokens_of_inline_table x.0 x.1) ∙
-                ap (λ (m : List SyntaxToken). out ++ m) (sym (made_marks n read sound count r p x.0 x.1 sign h)) ∙
+                ap (λ (m : List SyntaxToken). out ++ m) (sym (made_tokens n read sound count r p x.0 x.1 sign h)) ∙
                 b.2,
           );
       none = λ h. before.none (step ∙ rw h refl);

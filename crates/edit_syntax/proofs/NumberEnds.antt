@@ -5,23 +5,23 @@ use Rattle.std.proofs.lemmas.Bool.Decides.{nat_tests}
 use Rattle.edit_syntax.specs.Characters.{is_blank, is_bare, All}
 use Rattle.edit_syntax.specs.Numbers.{is_decimal, are_digits, are_more_digits, is_decimal_integer}
 use Rattle.edit_syntax.specs.ReadingSteps.{first}
-use Rattle.edit_syntax.specs.ReadingNumbers.{is_marked, digits_at, whole_at, is_exponent_letter}
+use Rattle.edit_syntax.specs.ReadingNumbers.{or_underscore, digits_at, whole_at, is_exponent_letter}
 use Rattle.edit_syntax.proofs.TokenLaws.{front_again, after_again}
 use Rattle.edit_syntax.proofs.Cases.{by_test}
 
 -- ---- what may follow
 
 -- a byte that numbers, dates and times are made of, but for the space
-abbrev pub is_word : ℕ → Bool
-is_word b = is_bare b || b == 43 || b == 46 || b == 58
+abbrev pub is_value_byte : ℕ → Bool
+is_value_byte b = is_bare b || b == 43 || b == 46 || b == 58
 
 -- a byte that may stand behind a value and the white space after it
 abbrev pub is_stop : ℕ → Bool
-is_stop b = not (is_word b) && not (is_blank b) && not (b == 34) && not (b == 39)
+is_stop b = not (is_value_byte b) && not (is_blank b) && not (b == 34) && not (b == 39)
 
 -- what may follow a value: neither more of it, nor a space and a digit, nor a delimiter of strings
 pub record EndsValue (rest : List ℕ) : Type 0 where
-  pub no_word : is_word (first rest) ≡ false
+  pub no_value_byte : is_value_byte (first rest) ≡ false
   pub no_time : (eqb (first rest) 32 && is_decimal (first (drop 1 rest))) ≡ false
   pub no_quote : eqb (first rest) 34 ≡ false
   pub no_apostrophe : eqb (first rest) 39 ≡ false
@@ -29,7 +29,7 @@ pub record EndsValue (rest : List ℕ) : Type 0 where
 pub blank_ends : (b : ℕ) (rest : List ℕ) → is_blank b ≡ true → is_decimal (first rest) ≡ false
     → EndsValue (b ∷ rest)
 blank_ends b rest h other = record {
-  no_word = grind (arith, nat_tests);
+  no_value_byte = grind (arith, nat_tests);
   no_time = rw other (and_false (eqb b 32));
   no_quote = grind (arith, nat_tests);
   no_apostrophe = grind (arith, nat_tests);
@@ -41,7 +41,7 @@ blank_ends b rest h other = record {
 
 pub stop_ends : (rest : List ℕ) → is_stop (first rest) ≡ true → EndsValue rest
 stop_ends rest h = record {
-  no_word = grind (arith, nat_tests);
+  no_value_byte = grind (arith, nat_tests);
   no_time = let other : eqb (first rest) 32 ≡ false = grind (arith, nat_tests) in rw other refl;
   no_quote = grind (arith, nat_tests);
   no_apostrophe = grind (arith, nat_tests);
@@ -61,7 +61,7 @@ ends_value (b ∷ c ∷ a) rest h stop = blank_ends b (c ∷ (a ++ rest)) h.0 (b
 
 -- what may follow the digits of a number's whole part
 pub record EndsWhole (b : ℕ) : Type 0 where
-  pub no_mark : is_marked is_decimal b ≡ false
+  pub no_digit_or_underscore : or_underscore is_decimal b ≡ false
   pub no_digit : is_decimal b ≡ false
   pub no_dash : eqb b 45 ≡ false
   pub no_colon : eqb b 58 ≡ false
@@ -69,9 +69,9 @@ pub record EndsWhole (b : ℕ) : Type 0 where
   pub no_o : eqb b 111 ≡ false
   pub no_b : eqb b 98 ≡ false
 
-pub word_whole : (b : ℕ) → is_word b ≡ false → EndsWhole b
-word_whole b h = record {
-  no_mark = grind (arith, nat_tests);
+pub ends_whole : (b : ℕ) → is_value_byte b ≡ false → EndsWhole b
+ends_whole b h = record {
+  no_digit_or_underscore = grind (arith, nat_tests);
   no_digit = grind (arith, nat_tests);
   no_dash = grind (arith, nat_tests);
   no_colon = grind (arith, nat_tests);
@@ -82,7 +82,7 @@ word_whole b h = record {
 
 pub power_whole : (b : ℕ) → is_exponent_letter b ≡ true → EndsWhole b
 power_whole b h = record {
-  no_mark = grind (arith, nat_tests);
+  no_digit_or_underscore = grind (arith, nat_tests);
   no_digit = grind (arith, nat_tests);
   no_dash = grind (arith, nat_tests);
   no_colon = grind (arith, nat_tests);
@@ -93,7 +93,7 @@ power_whole b h = record {
 
 pub dot_whole : EndsWhole 46
 dot_whole = record {
-  no_mark = refl;
+  no_digit_or_underscore = refl;
   no_digit = refl;
   no_dash = refl;
   no_colon = refl;
@@ -104,58 +104,58 @@ dot_whole = record {
 
 -- ---- digits
 
-marked_class : (class : ℕ → Bool) (b : ℕ) → class b ≡ true → is_marked class b ≡ true
-marked_class class b h = rw h refl
+class_within : (class : ℕ → Bool) (b : ℕ) → class b ≡ true → or_underscore class b ≡ true
+class_within class b h = rw h refl
 
-marked_bar : (class : ℕ → Bool) (b : ℕ) → eqb b 95 ≡ true → is_marked class b ≡ true
-marked_bar class b h = go (class b)
+underscore_within : (class : ℕ → Bool) (b : ℕ) → eqb b 95 ≡ true → or_underscore class b ≡ true
+underscore_within class b h = go (class b)
   where
     go : (c : Bool) → (c || eqb b 95) ≡ true
     go true = refl
     go false = h
 
 mutual
-  digits_marked : (class : ℕ → Bool) (ds : List ℕ) → are_digits class ds ≡ true → All (is_marked class) ds
-  digits_marked class [] e = tt
-  digits_marked class (b ∷ ds) e = let h = and_parts (class b) (are_more_digits class ds) e in
-      (marked_class class b h.0, more_marked class ds h.1)
+  digits_within : (class : ℕ → Bool) (ds : List ℕ) → are_digits class ds ≡ true → All (or_underscore class) ds
+  digits_within class [] e = tt
+  digits_within class (b ∷ ds) e = let h = and_parts (class b) (are_more_digits class ds) e in
+      (class_within class b h.0, more_within class ds h.1)
 
-  more_marked : (class : ℕ → Bool) (ds : List ℕ) → are_more_digits class ds ≡ true → All (is_marked class) ds
-  more_marked class [] e = tt
-  more_marked class (b ∷ ds) e =
+  more_within : (class : ℕ → Bool) (ds : List ℕ) → are_more_digits class ds ≡ true → All (or_underscore class) ds
+  more_within class [] e = tt
+  more_within class (b ∷ ds) e =
       by_test (eqb b 95)
       (λ h. (
-        marked_bar class b h,
-        digits_marked class ds
+        underscore_within class b h,
+        digits_within class ds
             (sym (ap (λ c. cond c (are_digits class ds) (class b && are_more_digits class ds)) h) ∙ e),
       ))
       (λ h. let g = and_parts (class b) (are_more_digits class ds)
       (sym (ap (λ c. cond c (are_digits class ds) (class b && are_more_digits class ds)) h) ∙ e) in
-      (marked_class class b g.0, more_marked class ds g.1))
+      (class_within class b g.0, more_within class ds g.1))
 
-pub whole_marked : (ds : List ℕ) → is_decimal_integer ds ≡ true → All (is_marked is_decimal) ds
-whole_marked [] e = absurd (true≢false (sym e))
-whole_marked (b ∷ []) e = (marked_class is_decimal b e, tt)
-whole_marked (b ∷ c ∷ ds) e = digits_marked is_decimal (b ∷ c ∷ ds)
+pub whole_within : (ds : List ℕ) → is_decimal_integer ds ≡ true → All (or_underscore is_decimal) ds
+whole_within [] e = absurd (true≢false (sym e))
+whole_within (b ∷ []) e = (class_within is_decimal b e, tt)
+whole_within (b ∷ c ∷ ds) e = digits_within is_decimal (b ∷ c ∷ ds)
     (and_parts (nat_le 49 b) (are_digits is_decimal (b ∷ c ∷ ds)) e).1
 
 pub digits_again : (class : ℕ → Bool) (ds rest : List ℕ) → are_digits class ds ≡ true
-    → is_marked class (first rest) ≡ false → digits_at class (ds ++ rest) ≡ Some (ds, rest)
+    → or_underscore class (first rest) ≡ false → digits_at class (ds ++ rest) ≡ Some (ds, rest)
 unfolding digits_at
 digits_again class ds rest h stops =
-    let all = digits_marked class ds h in
-    rw (front_again (is_marked class) ds rest all stops, after_again (is_marked class) ds rest all stops, h)
+    let all = digits_within class ds h in
+    rw (front_again (or_underscore class) ds rest all stops, after_again (or_underscore class) ds rest all stops, h)
     refl
 
 pub whole_again : (ds rest : List ℕ) → is_decimal_integer ds ≡ true
-    → is_marked is_decimal (first rest) ≡ false
+    → or_underscore is_decimal (first rest) ≡ false
     → whole_at (ds ++ rest) ≡ Some (ds, rest)
 unfolding whole_at
 whole_again ds rest h stops =
-    let all = whole_marked ds h in
+    let all = whole_within ds h in
     rw (
-      front_again (is_marked is_decimal) ds rest all stops,
-      after_again (is_marked is_decimal) ds rest all stops,
+      front_again (or_underscore is_decimal) ds rest all stops,
+      after_again (or_underscore is_decimal) ds rest all stops,
       h,
     ) refl
 

@@ -11,25 +11,25 @@ abbrev pub Relation : Type 1
 Relation = List ℕ → List ℕ → Type 0
 
 -- kept where a byte is put before both
-abbrev pub IsKept : Relation → Type 0
-IsKept R = (c : ℕ) (old new : List ℕ) → R old new → R (c ∷ old) (c ∷ new)
+abbrev pub IsPreserved : Relation → Type 0
+IsPreserved R = (c : ℕ) (old new : List ℕ) → R old new → R (c ∷ old) (c ∷ new)
 
-pub put_before : (R : Relation) (one : IsKept R) (t old new : List ℕ) → R old new → R (t ++ old) (t ++ new)
+pub put_before : (R : Relation) (one : IsPreserved R) (t old new : List ℕ) → R old new → R (t ++ old) (t ++ new)
 put_before R one [] old new s = s
 put_before R one (c ∷ t) old new s = one c (t ++ old) (t ++ new) (put_before R one t old new s)
 
-pub end_before : (R : Relation) (one : IsKept R) (e : LineEnd) (old new : List ℕ) → R old new
+pub end_before : (R : Relation) (one : IsPreserved R) (e : LineEnd) (old new : List ℕ) → R old new
     → R (line_end e old) (line_end e new)
 end_before R one lf old new s = one 10 old new s
 end_before R one crlf old new s = one 13 _ _ (one 10 old new s)
 
-spaces_before : (R : Relation) (one : IsKept R) (ws : List Space) (old new : List ℕ) → R old new
+spaces_before : (R : Relation) (one : IsPreserved R) (ws : List Space) (old new : List ℕ) → R old new
     → R (spaces ws old) (spaces ws new)
 spaces_before R one [] old new s = s
 spaces_before R one (space_blank b ∷ ws) old new s = one b _ _ (spaces_before R one ws old new s)
 spaces_before R one (space_break e ∷ ws) old new s = end_before R one e _ _ (spaces_before R one ws old new s)
 
-pub piece_before : (R : Relation) (one : IsKept R) (m : ℕ) (p : Piece) (old new : List ℕ) → R old new
+pub piece_before : (R : Relation) (one : IsPreserved R) (m : ℕ) (p : Piece) (old new : List ℕ) → R old new
     → R (piece m p old) (piece m p new)
 piece_before R one m (plain b) old new s = one b old new s
 piece_before R one m (letter c) old new s = one 92 _ _ (one c old new s)
@@ -40,34 +40,34 @@ piece_before R one m (fold ws e more) old new s =
     one 92 _ _ (put_before R one ws _ _ (end_before R one e _ _ (spaces_before R one more old new s)))
 piece_before R one m delimiter old new s = one m old new s
 
-pub pieces_before : (R : Relation) (one : IsKept R) (m : ℕ) (ps : List Piece) (old new : List ℕ) → R old new
+pub pieces_before : (R : Relation) (one : IsPreserved R) (m : ℕ) (ps : List Piece) (old new : List ℕ) → R old new
     → R (pieces m ps old) (pieces m ps new)
 pieces_before R one m [] old new s = s
 pieces_before R one m (p ∷ ps) old new s = piece_before R one m p _ _ (pieces_before R one m ps old new s)
 
-part_before : (R : Relation) (one : IsKept R) (p : Part) (old new : List ℕ) → R old new
+part_before : (R : Relation) (one : IsPreserved R) (p : Part) (old new : List ℕ) → R old new
     → R (part p old) (part p new)
 part_before R one (bare t) old new s = put_before R one t old new s
 part_before R one (basic_part ps) old new s = one 34 _ _ (pieces_before R one 34 ps _ _ (one 34 old new s))
 part_before R one (literal_part t) old new s = one 39 _ _ (put_before R one t _ _ (one 39 old new s))
 
-dotted_before : (R : Relation) (one : IsKept R) (ds : List Dotted) (old new : List ℕ) → R old new
+dotted_before : (R : Relation) (one : IsPreserved R) (ds : List Dotted) (old new : List ℕ) → R old new
     → R (dotted ds old) (dotted ds new)
 dotted_before R one [] old new s = s
 dotted_before R one (d ∷ ds) old new s = put_before R one d.before _ _
     (one 46 _ _ (put_before R one d.behind _ _
     (part_before R one d.part _ _ (dotted_before R one ds old new s))))
 
-pub key_before : (R : Relation) (one : IsKept R) (k : Key) (old new : List ℕ) → R old new
+pub key_before : (R : Relation) (one : IsPreserved R) (k : Key) (old new : List ℕ) → R old new
     → R (key k old) (key k new)
 key_before R one k old new s = part_before R one k.first _ _ (dotted_before R one k.others old new s)
 
-pub pair_before : (R : Relation) (one : IsKept R) (k : Key) (a b old new : List ℕ) → R old new
+pub pair_before : (R : Relation) (one : IsPreserved R) (k : Key) (a b old new : List ℕ) → R old new
     → R (key k (a ++ (equals ∷ (b ++ old)))) (key k (a ++ (equals ∷ (b ++ new))))
 pair_before R one k a b old new s = key_before R one k _ _
     (put_before R one a _ _ (one equals _ _ (put_before R one b old new s)))
 
-pub gap_before : (R : Relation) (one : IsKept R) (g : List Between) (old new : List ℕ) → R old new
+pub gap_before : (R : Relation) (one : IsPreserved R) (g : List Between) (old new : List ℕ) → R old new
     → R (gap g old) (gap g new)
 gap_before R one [] old new s = s
 gap_before R one (blank b ∷ g) old new s = one b _ _ (gap_before R one g old new s)
@@ -75,28 +75,28 @@ gap_before R one (break e ∷ g) old new s = end_before R one e _ _ (gap_before 
 gap_before R one (remark t e ∷ g) old new s = one hash _ _
     (put_before R one t _ _ (end_before R one e _ _ (gap_before R one g old new s)))
 
-sign_before : (R : Relation) (one : IsKept R) (g : Sign) (old new : List ℕ) → R old new
+sign_before : (R : Relation) (one : IsPreserved R) (g : Sign) (old new : List ℕ) → R old new
     → R (sign g old) (sign g new)
 sign_before R one no_sign old new s = s
 sign_before R one plus old new s = one 43 old new s
 sign_before R one minus old new s = one 45 old new s
 
-integer_before : (R : Relation) (one : IsKept R) (n : Integer) (old new : List ℕ) → R old new
+integer_before : (R : Relation) (one : IsPreserved R) (n : Integer) (old new : List ℕ) → R old new
     → R (integer_text n old) (integer_text n new)
 integer_before R one (decimal g ds) old new s = sign_before R one g _ _ (put_before R one ds old new s)
 integer_before R one (based b ds) old new s = one 48 _ _ (one _ _ _ (put_before R one ds old new s))
 
-exponent_before : (R : Relation) (one : IsKept R) (e : Exponent) (old new : List ℕ) → R old new
+exponent_before : (R : Relation) (one : IsPreserved R) (e : Exponent) (old new : List ℕ) → R old new
     → R (exponent e old) (exponent e new)
 exponent_before R one e old new s =
     one e.letter _ _ (sign_before R one e.sign _ _ (put_before R one e.digits old new s))
 
-optional_before : (R : Relation) (one : IsKept R) (e : Option Exponent) (old new : List ℕ) → R old new
+optional_before : (R : Relation) (one : IsPreserved R) (e : Option Exponent) (old new : List ℕ) → R old new
     → R (optional_exponent e old) (optional_exponent e new)
 optional_before R one None old new s = s
 optional_before R one (Some e) old new s = exponent_before R one e old new s
 
-float_before : (R : Relation) (one : IsKept R) (f : Float) (old new : List ℕ) → R old new
+float_before : (R : Relation) (one : IsPreserved R) (f : Float) (old new : List ℕ) → R old new
     → R (float_text f old) (float_text f new)
 float_before R one (with_fraction g w f e) old new s = sign_before R one g _ _
     (put_before R one w _ _ (one 46 _ _ (put_before R one f _ _ (optional_before R one e old new s))))
@@ -107,42 +107,42 @@ float_before R one (infinite g) old new s = sign_before R one g _ _
 float_before R one (not_a_number g) old new s = sign_before R one g _ _
     (one 110 _ _ (one 97 _ _ (one 110 old new s)))
 
-fraction_before : (R : Relation) (one : IsKept R) (f : Option (List ℕ)) (old new : List ℕ) → R old new
+fraction_before : (R : Relation) (one : IsPreserved R) (f : Option (List ℕ)) (old new : List ℕ) → R old new
     → R (fraction_text f old) (fraction_text f new)
 fraction_before R one None old new s = s
 fraction_before R one (Some ds) old new s = one 46 _ _ (put_before R one ds old new s)
 
-date_before : (R : Relation) (one : IsKept R) (d : Date) (old new : List ℕ) → R old new
+date_before : (R : Relation) (one : IsPreserved R) (d : Date) (old new : List ℕ) → R old new
     → R (date d old) (date d new)
 date_before R one d old new s = put_before R one d.year _ _
     (one 45 _ _ (put_before R one d.month _ _ (one 45 _ _ (put_before R one d.day old new s))))
 
-time_before : (R : Relation) (one : IsKept R) (t : Time) (old new : List ℕ) → R old new
+time_before : (R : Relation) (one : IsPreserved R) (t : Time) (old new : List ℕ) → R old new
     → R (time t old) (time t new)
 time_before R one t old new s = put_before R one t.hour _ _
     (one 58 _ _ (put_before R one t.minute _ _
     (one 58 _ _ (put_before R one t.second _ _ (fraction_before R one t.fraction old new s)))))
 
-offset_before : (R : Relation) (one : IsKept R) (o : Offset) (old new : List ℕ) → R old new
+offset_before : (R : Relation) (one : IsPreserved R) (o : Offset) (old new : List ℕ) → R old new
     → R (offset o old) (offset o new)
 offset_before R one local old new s = s
 offset_before R one (zulu z) old new s = one z old new s
 offset_before R one (shift g h m) old new s =
     one g _ _ (put_before R one h _ _ (one 58 _ _ (put_before R one m old new s)))
 
-datetime_before : (R : Relation) (one : IsKept R) (d : DateTime) (old new : List ℕ) → R old new
+datetime_before : (R : Relation) (one : IsPreserved R) (d : DateTime) (old new : List ℕ) → R old new
     → R (datetime_text d old) (datetime_text d new)
 datetime_before R one (only_date d) old new s = date_before R one d old new s
 datetime_before R one (only_time t) old new s = time_before R one t old new s
 datetime_before R one (both d c t o) old new s = date_before R one d _ _
     (one c _ _ (time_before R one t _ _ (offset_before R one o old new s)))
 
-three_before : (R : Relation) (one : IsKept R) (m : ℕ) (old new : List ℕ) → R old new
+three_before : (R : Relation) (one : IsPreserved R) (m : ℕ) (old new : List ℕ) → R old new
     → R (m ∷ (m ∷ (m ∷ old))) (m ∷ (m ∷ (m ∷ new)))
 three_before R one m old new s = one m _ _ (one m _ _ (one m old new s))
 
 mutual
-  pub value_before : (R : Relation) (one : IsKept R) (v : Value) (old new : List ℕ) → R old new
+  pub value_before : (R : Relation) (one : IsPreserved R) (v : Value) (old new : List ℕ) → R old new
       → R (value v old) (value v new)
   value_before R one (basic ps) old new s = one 34 _ _ (pieces_before R one 34 ps _ _ (one 34 old new s))
   value_before R one (literal t) old new s = one 39 _ _ (put_before R one t _ _ (one 39 old new s))
@@ -161,14 +161,14 @@ mutual
   value_before R one (inline g ms) old new s = one left_brace _ _
       (gap_before R one g _ _ (members_before R one ms _ _ (one right_brace old new s)))
 
-  pub elements_before : (R : Relation) (one : IsKept R) (es : Elements) (old new : List ℕ) → R old new
+  pub elements_before : (R : Relation) (one : IsPreserved R) (es : Elements) (old new : List ℕ) → R old new
       → R (elements es old) (elements es new)
   elements_before R one no_elements old new s = s
   elements_before R one (last_element v g) old new s = value_before R one v _ _ (gap_before R one g old new s)
   elements_before R one (element v g h es) old new s = value_before R one v _ _
       (gap_before R one g _ _ (one comma _ _ (gap_before R one h _ _ (elements_before R one es old new s))))
 
-  pub members_before : (R : Relation) (one : IsKept R) (ms : Members) (old new : List ℕ) → R old new
+  pub members_before : (R : Relation) (one : IsPreserved R) (ms : Members) (old new : List ℕ) → R old new
       → R (members ms old) (members ms new)
   members_before R one no_members old new s = s
   members_before R one (last_member k a b v c) old new s =
@@ -178,12 +178,12 @@ mutual
       (value_before R one v _ _
       (gap_before R one c _ _ (one comma _ _ (gap_before R one d _ _ (members_before R one ms old new s)))))
 
-pub comment_before : (R : Relation) (one : IsKept R) (c : Option (List ℕ)) (old new : List ℕ) → R old new
+pub comment_before : (R : Relation) (one : IsPreserved R) (c : Option (List ℕ)) (old new : List ℕ) → R old new
     → R (comment c old) (comment c new)
 comment_before R one None old new s = s
 comment_before R one (Some t) old new s = one 35 _ _ (put_before R one t old new s)
 
-pub statement_before : (R : Relation) (one : IsKept R) (s : Statement) (old new : List ℕ) → R old new
+pub statement_before : (R : Relation) (one : IsPreserved R) (s : Statement) (old new : List ℕ) → R old new
     → R (statement s old) (statement s new)
 statement_before R one (pair k a b v) old new s = pair_before R one k a b _ _ (value_before R one v old new s)
 statement_before R one (header a k b) old new s =
@@ -193,16 +193,16 @@ statement_before R one (element_header a k b) old new s =
     (put_before R one a _ _
     (key_before R one k _ _ (put_before R one b _ _ (one 93 _ _ (one 93 old new s))))))
 
-pub line_before : (R : Relation) (one : IsKept R) (l : Line) (old new : List ℕ) → R old new
+pub line_before : (R : Relation) (one : IsPreserved R) (l : Line) (old new : List ℕ) → R old new
     → R (line l old) (line l new)
 line_before R one (empty_line a c) old new s = put_before R one a _ _ (comment_before R one c old new s)
 line_before R one (full_line a t b c) old new s = put_before R one a _ _
     (statement_before R one t _ _ (put_before R one b _ _ (comment_before R one c old new s)))
 
-pub mark_before : (R : Relation) (one : IsKept R) (m : Bool) (old new : List ℕ) → R old new
+pub byte_order_mark_before : (R : Relation) (one : IsPreserved R) (m : Bool) (old new : List ℕ) → R old new
     → R (byte_order_mark m old) (byte_order_mark m new)
-mark_before R one true old new s = one 0xEF _ _ (one 0xBB _ _ (one 0xBF old new s))
-mark_before R one false old new s = s
+byte_order_mark_before R one true old new s = one 0xEF _ _ (one 0xBB _ _ (one 0xBF old new s))
+byte_order_mark_before R one false old new s = s
 
 -- ---- what follows stands behind the bytes of a part of the grammar
 
@@ -210,7 +210,7 @@ mark_before R one false old new s = s
 abbrev pub Behind : List ℕ → Relation
 Behind rest = λ whole own. whole ≡ own ++ rest
 
-pub behind_one : (rest : List ℕ) → IsKept (Behind rest)
+pub behind_one : (rest : List ℕ) → IsPreserved (Behind rest)
 behind_one rest c whole own e = ap (λ (l : List ℕ). c ∷ l) e
 
 pub piece_rest : (m : ℕ) (p : Piece) (rest : List ℕ) → piece m p rest ≡ piece m p [] ++ rest

@@ -6,7 +6,7 @@ use Rattle.edit_syntax.specs.Characters.{is_blank, is_bare, All}
 use Rattle.edit_syntax.specs.Strings.{LineEnd, lf, crlf, line_end, Part, bare, basic_part, literal_part, part, IsPart}
 use Rattle.edit_syntax.specs.Grammar.{Statement, pair, header, element_header, statement, IsStatement, comment, Line, empty_line, full_line, line, IsLine, Lines, one_line, more_lines, lines, AreLines, Text, text, byte_order_mark, Spells}
 use Rattle.edit_syntax.specs.Depth.{lines_depth, text_depth}
-use Rattle.edit_syntax.specs.Reading.{◌>>=◌, first, lines_at, is_marked, skip_byte_order_mark, read_text}
+use Rattle.edit_syntax.specs.Reading.{◌>>=◌, first, lines_at, begins_with_byte_order_mark, skip_byte_order_mark, read_text}
 use Rattle.edit_syntax.proofs.TokenLaws.{first_is, at_drop}
 use Rattle.edit_syntax.proofs.LineSound.{AreGoodLines, lines_sound}
 use Rattle.edit_syntax.proofs.LineLaws.{lines_again, few_lines}
@@ -18,10 +18,10 @@ pub record IsReadText (n : ℕ) (bytes : List ℕ) (t : Text) : Type 0 where
   pub spells : Spells bytes t
   pub shallow : text_depth t ≤ n
 
-mark_parts : (bytes : List ℕ) → bytes ≡ byte_order_mark (is_marked bytes) (skip_byte_order_mark bytes)
-mark_parts bytes = go (is_marked bytes) refl
+byte_order_mark_parts : (bytes : List ℕ) → bytes ≡ byte_order_mark (begins_with_byte_order_mark bytes) (skip_byte_order_mark bytes)
+byte_order_mark_parts bytes = go (begins_with_byte_order_mark bytes) refl
   where
-    go : (b : Bool) → is_marked bytes ≡ b → bytes ≡ byte_order_mark b (cond b (drop 3 bytes) bytes)
+    go : (b : Bool) → begins_with_byte_order_mark bytes ≡ b → bytes ≡ byte_order_mark b (cond b (drop 3 bytes) bytes)
     go true e =
         let x = and_parts _ (eqb (slice_index bytes 2) 0xBF) e in
         let y = and_parts _ (eqb (slice_index bytes 1) 0xBB) x.0 in
@@ -32,66 +32,66 @@ mark_parts bytes = go (is_marked bytes) refl
 
 -- lines that were read behind a mark or nothing
 pub lines_found : (n : ℕ) (bytes : List ℕ) (ls : Lines) → skip_byte_order_mark bytes ≡ lines ls → AreLines ls
-    → lines_depth ls ≤ n → IsReadText n bytes (record { marked = is_marked bytes; lines = ls })
+    → lines_depth ls ≤ n → IsReadText n bytes (record { has_byte_order_mark = begins_with_byte_order_mark bytes; lines = ls })
 lines_found n bytes ls e valid shallow = record {
   spells = record {
-    spelled = mark_parts bytes ∙ ap (byte_order_mark (is_marked bytes)) e;
+    spelled = byte_order_mark_parts bytes ∙ ap (byte_order_mark (begins_with_byte_order_mark bytes)) e;
     well_formed = valid;
   };
   shallow = shallow;
 }
 
 -- no line begins as a byte order mark does
-blank_unmarked : (a rest : List ℕ) → All is_blank a → eqb (first rest) 0xEF ≡ false
+blank_other_first : (a rest : List ℕ) → All is_blank a → eqb (first rest) 0xEF ≡ false
     → eqb (first (a ++ rest)) 0xEF ≡ false
-blank_unmarked [] rest h e = e
-blank_unmarked (c ∷ a) rest h e = grind (arith, nat_tests, h.0)
+blank_other_first [] rest h e = e
+blank_other_first (c ∷ a) rest h e = grind (arith, nat_tests, h.0)
 
-comment_unmarked : (c : Option (List ℕ)) (rest : List ℕ) → eqb (first rest) 0xEF ≡ false
+comment_other_first : (c : Option (List ℕ)) (rest : List ℕ) → eqb (first rest) 0xEF ≡ false
     → eqb (first (comment c rest)) 0xEF ≡ false
-comment_unmarked None rest e = e
-comment_unmarked (Some text) rest e = refl
+comment_other_first None rest e = e
+comment_other_first (Some text) rest e = refl
 
-bare_unmarked : (b : ℕ) → is_bare b ≡ true → eqb b 0xEF ≡ false
-bare_unmarked b h = grind (arith, nat_tests)
+bare_other_first : (b : ℕ) → is_bare b ≡ true → eqb b 0xEF ≡ false
+bare_other_first b h = grind (arith, nat_tests)
 
-part_unmarked : (k : Part) (rest : List ℕ) → IsPart k → eqb (first (part k rest)) 0xEF ≡ false
-part_unmarked (bare []) rest h = absurd (omega (arith, h.0))
-part_unmarked (bare (b ∷ text)) rest h = bare_unmarked b h.1.0
-part_unmarked (basic_part ps) rest h = refl
-part_unmarked (literal_part text) rest h = refl
+part_other_first : (k : Part) (rest : List ℕ) → IsPart k → eqb (first (part k rest)) 0xEF ≡ false
+part_other_first (bare []) rest h = absurd (omega (arith, h.0))
+part_other_first (bare (b ∷ text)) rest h = bare_other_first b h.1.0
+part_other_first (basic_part ps) rest h = refl
+part_other_first (literal_part text) rest h = refl
 
-statement_unmarked : (s : Statement) (rest : List ℕ) → IsStatement s
+statement_other_first : (s : Statement) (rest : List ℕ) → IsStatement s
     → eqb (first (statement s rest)) 0xEF ≡ false
-statement_unmarked (pair k a b v) rest h = part_unmarked k.first _ h.0.0
-statement_unmarked (header a k b) rest h = refl
-statement_unmarked (element_header a k b) rest h = refl
+statement_other_first (pair k a b v) rest h = part_other_first k.first _ h.0.0
+statement_other_first (header a k b) rest h = refl
+statement_other_first (element_header a k b) rest h = refl
 
-line_unmarked : (l : Line) (rest : List ℕ) → IsLine l → eqb (first rest) 0xEF ≡ false
+line_other_first : (l : Line) (rest : List ℕ) → IsLine l → eqb (first rest) 0xEF ≡ false
     → eqb (first (line l rest)) 0xEF ≡ false
-line_unmarked (empty_line a c) rest h e = blank_unmarked a (comment c rest) h.0 (comment_unmarked c rest e)
-line_unmarked (full_line a s b c) rest h e = blank_unmarked a (statement s (b ++ comment c rest)) h.0
-    (statement_unmarked s (b ++ comment c rest) h.1)
+line_other_first (empty_line a c) rest h e = blank_other_first a (comment c rest) h.0 (comment_other_first c rest e)
+line_other_first (full_line a s b c) rest h e = blank_other_first a (statement s (b ++ comment c rest)) h.0
+    (statement_other_first s (b ++ comment c rest) h.1)
 
-end_unmarked : (e : LineEnd) (rest : List ℕ) → eqb (first (line_end e rest)) 0xEF ≡ false
-end_unmarked lf rest = refl
-end_unmarked crlf rest = refl
+end_other_first : (e : LineEnd) (rest : List ℕ) → eqb (first (line_end e rest)) 0xEF ≡ false
+end_other_first lf rest = refl
+end_other_first crlf rest = refl
 
-lines_unmarked : (ls : Lines) → AreLines ls → eqb (first (lines ls)) 0xEF ≡ false
-lines_unmarked (one_line l) h = line_unmarked l [] h refl
-lines_unmarked (more_lines l e ls) h = line_unmarked l (line_end e (lines ls)) h.0 (end_unmarked e (lines ls))
+lines_other_first : (ls : Lines) → AreLines ls → eqb (first (lines ls)) 0xEF ≡ false
+lines_other_first (one_line l) h = line_other_first l [] h refl
+lines_other_first (more_lines l e ls) h = line_other_first l (line_end e (lines ls)) h.0 (end_other_first e (lines ls))
 
-unmarked : (bytes : List ℕ) → eqb (first bytes) 0xEF ≡ false → is_marked bytes ≡ false
-unmarked bytes e = rw e refl
+no_byte_order_mark : (bytes : List ℕ) → eqb (first bytes) 0xEF ≡ false → begins_with_byte_order_mark bytes ≡ false
+no_byte_order_mark bytes e = rw e refl
 
 -- the lines of any form of a text are those behind its mark
-mark_of : (b : Bool) (ls : Lines) → AreLines ls → (is_marked (byte_order_mark b (lines ls)) ≡ b)
+byte_order_mark_again : (b : Bool) (ls : Lines) → AreLines ls → (begins_with_byte_order_mark (byte_order_mark b (lines ls)) ≡ b)
     × (skip_byte_order_mark (byte_order_mark b (lines ls)) ≡ lines ls)
-mark_of true ls h = (refl, refl)
-mark_of false ls h = let e = unmarked (lines ls) (lines_unmarked ls h) in (e, rw e refl)
+byte_order_mark_again true ls h = (refl, refl)
+byte_order_mark_again false ls h = let e = no_byte_order_mark (lines ls) (lines_other_first ls h) in (e, rw e refl)
 
 pub lines_only : (bytes : List ℕ) (t : Text) → Spells bytes t → skip_byte_order_mark bytes ≡ lines t.lines
-lines_only bytes t h = ap skip_byte_order_mark h.spelled ∙ (mark_of t.marked t.lines h.well_formed).1
+lines_only bytes t h = ap skip_byte_order_mark h.spelled ∙ (byte_order_mark_again t.has_byte_order_mark t.lines h.well_formed).1
 
 pub lines_read : (n : ℕ) (bytes : List ℕ) (ls : Lines) → lines_at n (length bytes + 1) bytes ≡ Some ls
     → (bytes ≡ lines ls) × AreGoodLines n ls
@@ -106,12 +106,12 @@ pub read_again : (n : ℕ) (bytes : List ℕ) (t : Text) → IsReadText n bytes 
 unfolding read_text
 read_again n bytes t h =
     let body = lines_only bytes t h.spells in
-    let mark : is_marked bytes ≡ t.marked = ap is_marked h.spells.spelled ∙
-    (mark_of t.marked t.lines h.spells.well_formed).0 in
+    let starts : begins_with_byte_order_mark bytes ≡ t.has_byte_order_mark = ap begins_with_byte_order_mark h.spells.spelled ∙
+    (byte_order_mark_again t.has_byte_order_mark t.lines h.spells.well_formed).0 in
     let good : AreGoodLines n t.lines = record { valid = h.spells.well_formed; shallow = h.shallow } in
     let again : lines_at n (length (lines t.lines) + 1) (lines t.lines) ≡ Some t.lines =
     lines_again n (length (lines t.lines) + 1) t.lines good (few_lines n t.lines good) in
-    let form : Bool → Lines → Text = λ b ls. record { marked = b; lines = ls } in
-    ap (λ (x : List ℕ). lines_at n (length x + 1) x >>= λ ls. Some (form (is_marked bytes) ls)) body
-    ∙ ap (λ (o : Option Lines). o >>= λ ls. Some (form (is_marked bytes) ls)) again
-    ∙ ap (λ (b : Bool). Some (form b t.lines)) mark
+    let form : Bool → Lines → Text = λ b ls. record { has_byte_order_mark = b; lines = ls } in
+    ap (λ (x : List ℕ). lines_at n (length x + 1) x >>= λ ls. Some (form (begins_with_byte_order_mark bytes) ls)) body
+    ∙ ap (λ (o : Option Lines). o >>= λ ls. Some (form (begins_with_byte_order_mark bytes) ls)) again
+    ∙ ap (λ (b : Bool). Some (form b t.lines)) starts

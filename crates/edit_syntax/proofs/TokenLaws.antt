@@ -233,26 +233,26 @@ spaces_longer (blank b ∷ more) rest = let h = spaces_longer more rest in omega
 spaces_longer (break e ∷ more) rest =
     omega (arith, spaces_longer more rest, line_end_longer e (spaces more rest))
 
-pub piece_longer : (mark : ℕ) (p : Piece) (rest : List ℕ) → suc (length rest) ≤ length (piece mark p rest)
-piece_longer mark (plain b) rest = omega arith
-piece_longer mark (letter c) rest = omega arith
-piece_longer mark (short digits) rest = omega (arith, length-append digits rest)
-piece_longer mark (long digits) rest = omega (arith, length-append digits rest)
-piece_longer mark (feed e) rest = line_end_longer e rest
-piece_longer mark (fold ws e more) rest =
+pub piece_longer : (delimiter_byte : ℕ) (p : Piece) (rest : List ℕ) → suc (length rest) ≤ length (piece delimiter_byte p rest)
+piece_longer delimiter_byte (plain b) rest = omega arith
+piece_longer delimiter_byte (letter c) rest = omega arith
+piece_longer delimiter_byte (short digits) rest = omega (arith, length-append digits rest)
+piece_longer delimiter_byte (long digits) rest = omega (arith, length-append digits rest)
+piece_longer delimiter_byte (feed e) rest = line_end_longer e rest
+piece_longer delimiter_byte (fold ws e more) rest =
     omega (
       arith,
       length-append ws (line_end e (spaces more rest)),
       line_end_longer e (spaces more rest),
       spaces_longer more rest,
     )
-piece_longer mark delimiter rest = omega arith
+piece_longer delimiter_byte delimiter rest = omega arith
 
-pub length-pieces : (mark : ℕ) (ps : List Piece) (rest : List ℕ)
-    → length ps + length rest ≤ length (pieces mark ps rest)
-length-pieces mark [] rest = omega arith
-length-pieces mark (p ∷ ps) rest =
-    omega (arith, length-pieces mark ps rest, piece_longer mark p (pieces mark ps rest))
+pub length-pieces : (delimiter_byte : ℕ) (ps : List Piece) (rest : List ℕ)
+    → length ps + length rest ≤ length (pieces delimiter_byte ps rest)
+length-pieces delimiter_byte [] rest = omega arith
+length-pieces delimiter_byte (p ∷ ps) rest =
+    omega (arith, length-pieces delimiter_byte ps rest, piece_longer delimiter_byte p (pieces delimiter_byte ps rest))
 
 pub basic_sound : (text : List ℕ) (x : List Piece × List ℕ) → basic_at text ≡ Some x
     → (text ≡ basic_rest x.0 x.1) × AreBasic x.0

@@ -39,9 +39,9 @@ Skips r read = option_map (λ rest. rest.now) r ≡ option_map (λ p. p.1) read
 -- memory means that the parser of the specification fails too
 abbrev pub AppendsTokens : {A : Type 0} → (A → List ℕ → List SyntaxToken) → Vec SyntaxToken → Vec SyntaxToken
     → Result (Bor (List ℕ)) ReadError → Read A → Type 0
-AppendsTokens {A} marks old new r read =
+AppendsTokens {A} tokens_of old new r read =
     MatchResult r (λ rest. (x : A) × (read ≡ Some (x, rest.now))
-    × (new.items ≡ old.items ++ marks x rest.now)) (λ e. (e ≡ Memory → ⊥) → read ≡ None)
+    × (new.items ≡ old.items ++ tokens_of x rest.now)) (λ e. (e ≡ Memory → ⊥) → read ≡ None)
 
 -- one token is appended, or memory ran out
 abbrev pub AppendsToken : Vec SyntaxToken → Vec SyntaxToken → Result (Unit {0}) ReadError → SyntaxToken

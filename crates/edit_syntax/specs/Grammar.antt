@@ -69,7 +69,7 @@ boolean_text false rest = 102 ∷ (97 ∷ (108 ∷ (115 ∷ (101 ∷ rest))))
 
 -- a delimiter three times, before the text that follows
 abbrev pub three : ℕ → List ℕ → List ℕ
-three mark rest = mark ∷ (mark ∷ (mark ∷ rest))
+three delimiter_byte rest = delimiter_byte ∷ (delimiter_byte ∷ (delimiter_byte ∷ rest))
 
 abbrev mutual
   -- the text of a value, before the text that follows
@@ -190,7 +190,7 @@ AreLines (more_lines l e ls) = IsLine l × AreLines ls
 
 -- a text: an optional byte order mark, U+FEFF, and lines
 pub record Text : Type 0 where
-  pub marked : Bool
+  pub has_byte_order_mark : Bool
   pub lines : Lines
 
 -- an optional byte order mark, before the text that follows
@@ -200,7 +200,7 @@ byte_order_mark false rest = rest
 
 -- the bytes of a text
 abbrev pub text : Text → List ℕ
-text t = byte_order_mark t.marked (lines t.lines)
+text t = byte_order_mark t.has_byte_order_mark (lines t.lines)
 
 -- the bytes are in the grammar, with this syntax tree
 pub record Spells (bytes : List ℕ) (form : Text) : Type 0 where

@@ -133,14 +133,14 @@ lines_at depth (suc n) text = line_at depth text >>= λ l.
     else (line_end_at l.1 >>= λ e. lines_at depth n e.1 >>= λ ls. Some (more_lines l.0 e.0 ls))
 
 -- the text begins with a byte order mark
-abbrev pub is_marked : List ℕ → Bool
-is_marked text = first text == 0xEF && slice_index text 1 == 0xBB && slice_index text 2 == 0xBF
+abbrev pub begins_with_byte_order_mark : List ℕ → Bool
+begins_with_byte_order_mark text = first text == 0xEF && slice_index text 1 == 0xBB && slice_index text 2 == 0xBF
 
 -- the text without a byte order mark at its start
 abbrev pub skip_byte_order_mark : List ℕ → List ℕ
-skip_byte_order_mark text = if is_marked text then drop 3 text else text
+skip_byte_order_mark text = if begins_with_byte_order_mark text then drop 3 text else text
 
 -- a text whose arrays and inline tables nest at most the given depth
 unfoldable pub read_text : ℕ → List ℕ → Option Text
 read_text depth text = lines_at depth (length (skip_byte_order_mark text) + 1) (skip_byte_order_mark text)
-    >>= λ ls. Some (record { marked = is_marked text; lines = ls })
+    >>= λ ls. Some (record { has_byte_order_mark = begins_with_byte_order_mark text; lines = ls })

@@ -9,18 +9,18 @@ use Rattle.edit_syntax.specs.ReadingSteps.{Read, ◌>>=◌, first, front, after,
 -- ---- digits
 
 -- a digit of the class or an underscore (own)
-abbrev pub is_marked : (ℕ → Bool) → ℕ → Bool
-is_marked class b = class b || b == 95
+abbrev pub or_underscore : (ℕ → Bool) → ℕ → Bool
+or_underscore class b = class b || b == 95
 
 -- the longest prefix of digits and underscores, if it is well formed ("Integer", underscores between digits)
 unfoldable pub digits_at : (ℕ → Bool) → List ℕ → Read (List ℕ)
-digits_at class text = if are_digits class (front (is_marked class) text)
-    then Some (front (is_marked class) text, after (is_marked class) text) else None
+digits_at class text = if are_digits class (front (or_underscore class) text)
+    then Some (front (or_underscore class) text, after (or_underscore class) text) else None
 
 -- the longest prefix of digits and underscores, if it is a decimal integer without leading zeros ("Integer")
 unfoldable pub whole_at : List ℕ → Read (List ℕ)
-whole_at text = if is_decimal_integer (front (is_marked is_decimal) text)
-    then Some (front (is_marked is_decimal) text, after (is_marked is_decimal) text) else None
+whole_at text = if is_decimal_integer (front (or_underscore is_decimal) text)
+    then Some (front (or_underscore is_decimal) text, after (or_underscore is_decimal) text) else None
 
 -- ---- numbers
 

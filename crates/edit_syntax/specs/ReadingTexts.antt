@@ -135,11 +135,11 @@ literal_piece_at text =
 
 -- a piece of a multi-line string that is not its delimiter
 unfoldable pub line_piece_at : ℕ → List ℕ → Read Piece
-line_piece_at mark text = if mark == quote then basic_piece_at text else literal_piece_at text
+line_piece_at delimiter_byte text = if delimiter_byte == quote then basic_piece_at text else literal_piece_at text
 
 -- the input begins with exactly three delimiters, which close the string; up to two more may precede these
 abbrev pub is_closing_delimiter : ℕ → List ℕ → Bool
-is_closing_delimiter mark text = begins mark mark mark text && not (slice_index text 3 == mark)
+is_closing_delimiter delimiter_byte text = begins delimiter_byte delimiter_byte delimiter_byte text && not (slice_index text 3 == delimiter_byte)
 
 -- a delimiter that is part of the string, where one more is allowed
 abbrev pub delimiter_at : (ℕ → List ℕ → Read (List Piece)) → ℕ → List ℕ → Read (List Piece)
@@ -149,15 +149,15 @@ delimiter_at body (suc few) text = body few (drop 1 text) >>= λ ps. Some (delim
 -- the pieces of a multi-line string, fewer than n, up to and with the closing delimiter; at most `few`
 -- delimiters may come first
 unfoldable pub body_at : ℕ → ℕ → ℕ → List ℕ → Read (List Piece)
-body_at mark zero few text = None
-body_at mark (suc n) few text =
-    if is_closing_delimiter mark text then Some ([], drop 3 text)
-    else (if first text == mark then delimiter_at (body_at mark n) few text
-    else (line_piece_at mark text >>= λ p. body_at mark n 2 p.1 >>= λ ps. Some (p.0 ∷ ps.0, ps.1)))
+body_at delimiter_byte zero few text = None
+body_at delimiter_byte (suc n) few text =
+    if is_closing_delimiter delimiter_byte text then Some ([], drop 3 text)
+    else (if first text == delimiter_byte then delimiter_at (body_at delimiter_byte n) few text
+    else (line_piece_at delimiter_byte text >>= λ p. body_at delimiter_byte n 2 p.1 >>= λ ps. Some (p.0 ∷ ps.0, ps.1)))
 
 -- the pieces of a multi-line string; the input begins behind the opening delimiter
 unfoldable pub multi_at : ℕ → List ℕ → Read (List Piece)
-multi_at mark text = body_at mark (length text) 2 text
+multi_at delimiter_byte text = body_at delimiter_byte (length text) 2 text
 
 -- ---- keys
 

@@ -58,18 +58,18 @@ pub data Piece : Type 0 where
 
 -- the text of a piece in a string with this delimiter, before the text that follows
 abbrev pub piece : ℕ → Piece → List ℕ → List ℕ
-piece mark (plain b) rest = b ∷ rest
-piece mark (letter c) rest = backslash ∷ (c ∷ rest)
-piece mark (short digits) rest = backslash ∷ (117 ∷ (digits · rest))
-piece mark (long digits) rest = backslash ∷ (85 ∷ (digits · rest))
-piece mark (feed e) rest = line_end e rest
-piece mark (fold ws e more) rest = backslash ∷ (ws · line_end e (spaces more rest))
-piece mark delimiter rest = mark ∷ rest
+piece delimiter_byte (plain b) rest = b ∷ rest
+piece delimiter_byte (letter c) rest = backslash ∷ (c ∷ rest)
+piece delimiter_byte (short digits) rest = backslash ∷ (117 ∷ (digits · rest))
+piece delimiter_byte (long digits) rest = backslash ∷ (85 ∷ (digits · rest))
+piece delimiter_byte (feed e) rest = line_end e rest
+piece delimiter_byte (fold ws e more) rest = backslash ∷ (ws · line_end e (spaces more rest))
+piece delimiter_byte delimiter rest = delimiter_byte ∷ rest
 
 -- the text of pieces in a string with this delimiter, before the text that follows
 abbrev pub pieces : ℕ → List Piece → List ℕ → List ℕ
-pieces mark [] rest = rest
-pieces mark (p ∷ ps) rest = piece mark p (pieces mark ps rest)
+pieces delimiter_byte [] rest = rest
+pieces delimiter_byte (p ∷ ps) rest = piece delimiter_byte p (pieces delimiter_byte ps rest)
 
 -- the letters that may follow a backslash: b t n f r " \ ("String", compact escapes)
 abbrev pub is_escape : ℕ → Bool
@@ -150,23 +150,23 @@ letter_value c = if c == 98 then 8 else (if c == 116
 
 -- the decoded value of a piece in a string with this delimiter
 abbrev pub decoded_piece : ℕ → Piece → List ℕ
-decoded_piece mark (plain b) = b ∷ []
-decoded_piece mark (letter c) = letter_value c ∷ []
-decoded_piece mark (short digits) = encode_utf8 (digits_value 16 digits)
-decoded_piece mark (long digits) = encode_utf8 (digits_value 16 digits)
-decoded_piece mark (feed e) = line_end e []
-decoded_piece mark (fold ws e more) = []
-decoded_piece mark delimiter = mark ∷ []
+decoded_piece delimiter_byte (plain b) = b ∷ []
+decoded_piece delimiter_byte (letter c) = letter_value c ∷ []
+decoded_piece delimiter_byte (short digits) = encode_utf8 (digits_value 16 digits)
+decoded_piece delimiter_byte (long digits) = encode_utf8 (digits_value 16 digits)
+decoded_piece delimiter_byte (feed e) = line_end e []
+decoded_piece delimiter_byte (fold ws e more) = []
+decoded_piece delimiter_byte delimiter = delimiter_byte ∷ []
 
 -- the decoded value of the pieces of a string
 abbrev pub decoded_pieces : ℕ → List Piece → List ℕ
-decoded_pieces mark ps = flat_map (decoded_piece mark) ps
+decoded_pieces delimiter_byte ps = flat_map (decoded_piece delimiter_byte) ps
 
 -- the decoded value of a multi-line string, which leaves out a newline right behind the opening delimiter
 -- ("String")
 abbrev pub decoded_multi : ℕ → List Piece → List ℕ
-decoded_multi mark (feed e ∷ ps) = decoded_pieces mark ps
-decoded_multi mark ps = decoded_pieces mark ps
+decoded_multi delimiter_byte (feed e ∷ ps) = decoded_pieces delimiter_byte ps
+decoded_multi delimiter_byte ps = decoded_pieces delimiter_byte ps
 
 -- ---- keys
 

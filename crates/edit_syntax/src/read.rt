@@ -54,7 +54,7 @@ pub fn tokenize(alloc: Global, text: &[u8]) -> CargoResult<Vec<SyntaxToken>>
 {
     let body = skip_byte_order_mark(text);
     match lines(alloc, body) {
-        Ok(marks) => Ok(marks),
+        Ok(tokens) => Ok(tokens),
         Err(ReadError::Memory) => Err(Error::Memory),
         Err(ReadError::NotToml { left }) => Err(Error::NotToml {
             at: text.len().saturating_sub(left),

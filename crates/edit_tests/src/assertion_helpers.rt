@@ -46,7 +46,7 @@ pub(crate) fn error_number_and_text(rt: &impl Abort, alloc: Global, error: Error
 }
 
 /// A given text where a call succeeded, else the error's number and message.
-pub(crate) fn word_or_error<T: Drop>(
+pub(crate) fn success_or_error<T: Drop>(
     rt: &impl Abort,
     alloc: Global,
     answer: CargoResult<T>,

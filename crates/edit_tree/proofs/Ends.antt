@@ -11,7 +11,7 @@ use Rattle.edit_syntax.specs.Grammar.{Between, gap, Value, value, Line, line}
 use Rattle.std.specs.Char.{IsScalar}
 use Rattle.std.proofs.lemmas.Bool.Decides.{nat_tests}
 use Rattle.edit_tree.specs.Walk.{suffix}
-use Rattle.edit_syntax.proofs.PutBefore.{Relation, IsKept, key_before, pair_before, gap_before, value_before, line_before}
+use Rattle.edit_syntax.proofs.PutBefore.{Relation, IsPreserved, key_before, pair_before, gap_before, value_before, line_before}
 use Rattle.edit_syntax.proofs.ListElements.{get_seam}
 
 -- the text ends so
@@ -43,7 +43,7 @@ suffix_is bytes s h =
 abbrev Tail : List ℕ → Relation
 Tail rest = λ whole own. (xs : List ℕ) × (whole ≡ xs ++ rest)
 
-tail_one : (rest : List ℕ) → IsKept (Tail rest)
+tail_one : (rest : List ℕ) → IsPreserved (Tail rest)
 tail_one rest c old new h = (c ∷ h.0, ap (λ (t : List ℕ). c ∷ t) h.1)
 
 tail_end : (rest : List ℕ) → Tail rest rest rest

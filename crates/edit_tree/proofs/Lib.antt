@@ -5,8 +5,8 @@ pub mod ShapedStrings
 pub mod SamePlace
 pub mod SamePlaces
 pub mod Below
-pub mod SpotNodes
-pub mod SpotTargets
+pub mod ModelNodes
+pub mod ModelTargets
 pub mod KeyFronts
 pub mod MoreAssertions
 pub mod MoreMembers

@@ -80,7 +80,7 @@ entry_is form place item p part one m e =
     lone (part_to place) made (all_pairs form) p part (one_pair form place one) m e
   where
     made : PlacedPair → List ℕ → Splice
-    made q spot = record { from = spot; to = q.behind; now = new_entry item [] }
+    made q suffix = record { from = suffix; to = q.behind; now = new_entry item [] }
 
 -- one pair does
 pub some_pair : (form : Text) (place : Place) → is_one_statement form place ≡ true

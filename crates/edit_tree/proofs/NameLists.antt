@@ -101,16 +101,16 @@ others_same k es name other n lt =
     sym (drop_all k es (omega arith)))
 
 -- the look-up still numbers those behind the first few, where a name comes to the members
-pub others_kept : (es more : List (List ℕ × ℕ)) (old others : Lookup) (name : List ℕ) (n : ℕ)
+pub others_remain : (es more : List (List ℕ × ℕ)) (old others : Lookup) (name : List ℕ) (n : ℕ)
     → more ≡ es ++ (name, n) ∷ [] → ((other : List ℕ) → number_of old other ≡ number_in (drop 8 es) other)
     → number_in es name ≡ None
     → ((8 ≤ length es) × ((other : List ℕ) → number_of others other
     ≡ cond (bytes_eq name other) (Some n) (number_of old other))) ⊎ ((length es < 8) × (others ≡ old))
     → (other : List ℕ) → number_of others other ≡ number_in (drop 8 more) other
-others_kept es more old others name n pushed kept none (inl (le, adds)) other =
-    adds other ∙ ap (λ (o : Option ℕ). cond (bytes_eq name other) (Some n) o) (kept other) ∙
+others_remain es more old others name n pushed numbers none (inl (le, adds)) other =
+    adds other ∙ ap (λ (o : Option ℕ). cond (bytes_eq name other) (Some n) o) (numbers other) ∙
     sym (others_push 8 es name other n le none) ∙ ap (λ (xs : List (List ℕ × ℕ)). number_in (drop 8 xs) other)
     (sym pushed)
-others_kept es more old others name n pushed kept none (inr (lt, same)) other =
-    ap (λ (l : Lookup). number_of l other) same ∙ kept other ∙ sym (others_same 8 es name other n lt) ∙
+others_remain es more old others name n pushed numbers none (inr (lt, same)) other =
+    ap (λ (l : Lookup). number_of l other) same ∙ numbers other ∙ sym (others_same 8 es name other n lt) ∙
     ap (λ (xs : List (List ℕ × ℕ)). number_in (drop 8 xs) other) (sym pushed)

@@ -19,7 +19,7 @@ spaced = blank 32 ∷ []
 abbrev text_of : List Between → Members → Text
 text_of g ms =
     let statement = pair (name (codes "x")) (codes " ") (codes " ") (inline g ms) in
-    record { marked = false; lines = one_line (full_line [] statement [] None) }
+    record { has_byte_order_mark = false; lines = one_line (full_line [] statement [] None) }
 
 -- `a = 1` as a member with a comma behind it
 abbrev a_member : List Between → List Between → Members → Members

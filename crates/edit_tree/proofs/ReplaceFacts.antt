@@ -25,7 +25,7 @@ inner = inline (blank 32 ∷ []) (member (name (codes "c")) spaced spaced (basic
 
 abbrev form : Text
 form = record {
-  marked = false;
+  has_byte_order_mark = false;
   lines =
       more_lines (full_line [] (pair (name (codes "c")) spaced [] (literal (codes "1"))) [] None) lf
       (more_lines (full_line [] (header [] (name (codes "t")) []) [] None) lf

@@ -36,20 +36,20 @@ value_has p (x ∷ made) e =
     of_kind element_kind e = absurd (true≢false (sym e))
 
 -- the value that is told at a place
-pub told_value : (form : Text) (p : Place) → AreCompatible (assertions form) → is_value_at form p ≡ true
+pub value_written : (form : Text) (p : Place) → AreCompatible (assertions form) → is_value_at form p ≡ true
     → HasValue form p
-told_value form p clash e = let r = value_has p (assertions form) e in
+value_written form p clash e = let r = value_has p (assertions form) e in
     (r.0, leaf_there p r.0 (assertions form) clash r.1)
 
 pub one_apart : (form : Text) (p : Place) (said : List ℕ) → HasValue form p → AreApart ((p, said) ∷ []) form
-one_apart form p said has q told e =
+one_apart form p said has q new e =
     by_test (same_place p q)
     (λ h. let same = same_place_is p q h in (
       subst (λ r. HasValue form r) same has,
       ap (λ r. is_below r q || false) same ∙
           ap (λ c. c || false) (not_below_itself q),
     ))
-    (λ h. let no : None ≡ Some told = sym (ap (λ c. cond c (Some said) None) h) ∙ e in absurd (never told no))
+    (λ h. let no : None ≡ Some new = sym (ap (λ c. cond c (Some said) None) h) ∙ e in absurd (never new no))
   where
     never : (l : List ℕ) → None ≡ Some l → ⊥
     never l h = cc
@@ -68,7 +68,7 @@ each_place P (x ∷ edits) p said all e =
 pub values_apart : (edits : Edits) (form : Text) → AreCompatible (assertions form) → AreValues edits form
     → AreOutside edits → AreApart edits form
 values_apart edits form clash values outside p said e = (
-  told_value form p clash (each_place (λ q. is_value_at form q ≡ true) edits p said values e),
+  value_written form p clash (each_place (λ q. is_value_at form q ≡ true) edits p said values e),
   each_place (λ q. is_below_any edits q ≡ false) edits p said outside e,
 )
 
@@ -142,24 +142,24 @@ written_same (x ∷ edits) t u q e = ap (λ v. cond (same_place x.0 q) (Some (st
 
 -- ---- strings are values, none of which lies below another
 
-kind_told : (made : List Assertion) (p : Place) (v : Value) → kind_at made p ≡ Some (leaf v)
+kind_of_leaf : (made : List Assertion) (p : Place) (v : Value) → kind_at made p ≡ Some (leaf v)
     → list_any (λ a. same_place a.place p && is_leaf a.kind) made ≡ true
-kind_told [] p v e = absurd cc
-kind_told (a ∷ made) p v e =
+kind_of_leaf [] p v e = absurd cc
+kind_of_leaf (a ∷ made) p v e =
     by_test (same_place a.place p)
     (λ h. let is : Some a.kind ≡ Some (leaf v) = sym (ap (λ c. cond c (Some a.kind) (kind_at made p)) h) ∙
     e in
     let same : a.kind ≡ leaf v = cc in
     ap₂ (λ b c. (b && c) || list_any (λ a. same_place a.place p && is_leaf a.kind) made) h (ap is_leaf same))
     (λ h. ap (λ b. (b && is_leaf a.kind) || list_any (λ a. same_place a.place p && is_leaf a.kind) made) h
-    ∙ kind_told made p v (sym (ap (λ c. cond c (Some a.kind) (kind_at made p)) h) ∙ e))
+    ∙ kind_of_leaf made p v (sym (ap (λ c. cond c (Some a.kind) (kind_at made p)) h) ∙ e))
 
-pub string_told : (form : Text) (p : Place) → is_string (view_at form p) ≡ true → is_value_at form p ≡ true
-string_told form p e = let v = string_value form p e in kind_told (assertions form) p v.0 v.1
+pub string_is_value : (form : Text) (p : Place) → is_string (view_at form p) ≡ true → is_value_at form p ≡ true
+string_is_value form p e = let v = string_value form p e in kind_of_leaf (assertions form) p v.0 v.1
 
 pub strings_values : (edits : Edits) (form : Text) → AreStrings edits (view_at form) → AreValues edits form
 strings_values [] form all = tt
-strings_values (e ∷ edits) form all = (string_told form e.0 all.0, strings_values edits form all.1)
+strings_values (e ∷ edits) form all = (string_is_value form e.0 all.0, strings_values edits form all.1)
 
 pub strings_outside : (edits : Edits) (old : List ℕ) (form : Text) → IsDocument old form
     → AreStrings edits (view_at form) → AreOutside edits

@@ -99,8 +99,8 @@ module _ (gone : Place) (made : List Assertion) (all : AreMade made made) where
   abbrev pub Stays : Place → Type 0
   Stays p = (a : Assertion) × Among a made × (a.place ≡ p) × (is_within gone a.by ≡ false)
 
-  told : (a : Assertion) → Among a made → Made made a
-  told a m = among_all (Made made) a made all m
+  made_of : (a : Assertion) → Among a made → Made made a
+  made_of a m = among_all (Made made) a made all m
 
   pub stays_kind : (p : Place) → Stays p → kind_at (assertions_left gone made) p ≡ None → ⊥
   stays_kind p (a, m, place, out) none = among_kind (assertions_left gone made) p a
@@ -122,7 +122,7 @@ module _ (gone : Place) (made : List Assertion) (all : AreMade made made) where
   pub off_way : (p : Place) → is_within gone p ≡ false → is_within p gone ≡ false → AllStay gone made p
   off_way p below above a m low =
       by_test (is_within gone a.by)
-      (λ e. elim (on_one_way gone p a.by e (inside_trans p a.place a.by low (told a m).upto)) [
+      (λ e. elim (on_one_way gone p a.by e (inside_trans p a.place a.by low (made_of a m).upto)) [
         | inl h ↦ absurd (true≢false (sym h ∙ below))
         | inr h ↦ absurd (true≢false (sym h ∙ above))
       ])
@@ -132,7 +132,7 @@ module _ (gone : Place) (made : List Assertion) (all : AreMade made made) where
   pub way_stays : (a : Assertion) → Among a made → is_within gone a.by ≡ false → (q : Place) → (q ≡ [] → ⊥)
       → is_within q a.by ≡ true → Stays q
   way_stays a m out q ne low =
-      let g = (told a m).paved q ne low in (
+      let g = (made_of a m).paved q ne low in (
         g.one,
         g.among,
         g.here,
@@ -143,19 +143,19 @@ module _ (gone : Place) (made : List Assertion) (all : AreMade made made) where
   pub up_stays : (p q : Place) → (q ≡ [] → ⊥) → is_within q p ≡ true → Stays p → Stays q
   up_stays p q ne low (a, m, place, out) =
       way_stays a m out q ne
-      (inside_trans q p a.by low (subst (λ z. is_within z a.by ≡ true) place (told a m).upto))
+      (inside_trans q p a.by low (subst (λ z. is_within z a.by ≡ true) place (made_of a m).upto))
 
   -- nothing stays at the place that is gone, nor below it
   pub gone_stays : (p : Place) → is_within gone p ≡ true → Stays p → ⊥
   gone_stays p low (a, m, place, out) =
       true≢false (sym (inside_trans gone p a.by low
-      (subst (λ z. is_within z a.by ≡ true) place (told a m).upto)) ∙ out)
+      (subst (λ z. is_within z a.by ≡ true) place (made_of a m).upto)) ∙ out)
 
   -- an assertion by the place itself stays
   pub own_stays : (p : Place) (a : Assertion) → Among a made → a.place ≡ p → owns a.kind ≡ true
       → is_within gone p ≡ false → Stays p
   own_stays p a m place own out =
-      (a, m, place, ap (λ z. is_within gone z) ((told a m).owner own ∙ place) ∙ out)
+      (a, m, place, ap (λ z. is_within gone z) ((made_of a m).owner own ∙ place) ∙ out)
 
   -- what nothing has for itself stays with one of its parts
   pub part_stays : (p : Place) → IsOpen p made → Stays p → (s : Step) × Stays (at p s)
@@ -166,7 +166,7 @@ module _ (gone : Place) (made : List Assertion) (all : AreMade made made) where
       (sym (and_from (owns a.kind) (same_place a.place p) e (ap (λ z. same_place z p) place ∙
       same_place_self p))
       ∙ among_all (λ x. (owns x.kind && same_place x.place p) ≡ false) a made free m))) (λ e. e) in
-      let s = (told a m).goes goes in (
+      let s = (made_of a m).goes goes in (
         s.0,
         way_stays a m out (at p s.0) (not_root p s.0) (ap (λ z. is_within (at z s.0) a.by) (sym place) ∙
             s.1),
@@ -176,13 +176,13 @@ module _ (gone : Place) (made : List Assertion) (all : AreMade made made) where
   pub index_own : (p : Place) (i : ℕ) (a : Assertion) → Among a made → a.place ≡ at p (index i)
       → (b : Assertion) × Among b made × (b.place ≡ at p (index i)) × (owns b.kind ≡ true)
   index_own p i a m place =
-      let g = (told a m).paved (at p (index i)) (not_root p (index i))
-      (subst (λ z. is_within z a.by ≡ true) place (told a m).upto) in (
+      let g = (made_of a m).paved (at p (index i)) (not_root p (index i))
+      (subst (λ z. is_within z a.by ≡ true) place (made_of a m).upto) in (
         g.one,
         g.among,
         g.here,
         by_test (owns g.one.kind) (λ e. e)
-            (λ e. let s = (told g.one g.among).goes e in
+            (λ e. let s = (made_of g.one g.among).goes e in
             absurd (not_within g.one.place s.0
             (ap (λ z. is_within (at g.one.place s.0) z) (sym (g.own p i refl ∙ sym g.here)) ∙ s.1))),
       )

@@ -11,11 +11,11 @@ use Rattle.edit_tree.specs.Assertions.{Place, index, at, named, names, Assertion
 use Rattle.edit_tree.specs.Written.{PlacedValue, placed_value, inside, in_elements, in_members, in_statement, in_lines}
 use Rattle.edit_tree.specs.Replaces.{Edits, Writer, new_text, written_or, put, replaced_inside, replaced_elements, replaced_members, replaced_statement, replaced_lines, replaced_by, edited, Swaps, rest, next, is_below}
 use Rattle.edit_tree.proofs.SamePlaces.{within_same, below_at, within_at, within_named}
-use Rattle.edit_syntax.proofs.PutBefore.{IsKept, put_before, end_before, gap_before, pair_before, value_before, line_before, comment_before, statement_before, mark_before}
+use Rattle.edit_syntax.proofs.PutBefore.{IsPreserved, put_before, end_before, gap_before, pair_before, value_before, line_before, comment_before, statement_before, byte_order_mark_before}
 use Rattle.edit_tree.proofs.ThinnedForms.{edited_below}
 use Rattle.edit_tree.proofs.ReplacedTree.{AreApart}
 
-pub swaps_one : (write : Writer) (more : List (PlacedValue × List ℕ)) → IsKept (Swaps write more)
+pub swaps_one : (write : Writer) (more : List (PlacedValue × List ℕ)) → IsPreserved (Swaps write more)
 swaps_one write more c old new (rest t) = rest (c ∷ t)
 swaps_one write more c old new (next t w said others now s) = next (c ∷ t) w said others now s
 
@@ -43,7 +43,7 @@ apart_none edits form apart p q said e low = go (new_text edits q) refl
   where
     go : (o : Option (List ℕ)) → new_text edits q ≡ o → new_text edits q ≡ None
     go None h = h
-    go (Some told) h = absurd (true≢false (sym (edited_below edits p q said e low) ∙ (apart q told h).1))
+    go (Some written_text) h = absurd (true≢false (sym (edited_below edits p q said e low) ∙ (apart q written_text h).1))
 
 abbrev AreBelow : Place → List PlacedValue → Type 0
 AreBelow target ws = AllByRecursion (λ w. is_below target w.place ≡ true) ws
@@ -272,5 +272,5 @@ swaps_lines write edits earlier prefix (more_lines (full_line a s b c) e ls) fre
 pub replaced_swaps : (write : Writer) (edits : Edits) (form : Text) → NoneBelow edits
     → Swaps write (edited edits form) (text form) (text (replaced_by write edits form))
 replaced_swaps write edits form free =
-    mark_before (Swaps write (edited edits form)) (swaps_one write (edited edits form)) form.marked _ _
+    byte_order_mark_before (Swaps write (edited edits form)) (swaps_one write (edited edits form)) form.has_byte_order_mark _ _
     (swaps_lines write edits [] [] form.lines free)

@@ -24,7 +24,7 @@ SameView p v w = (made : List Assertion) → view_of_value made p v ≡ view_of_
 -- the second value stands for the first: the literal where a text is to be written, else a value that shows
 -- the same
 pub record StandsFor (edits : Edits) (p : Place) (v w : Value) : Type 0 where
-  pub kept : new_text edits p ≡ None → SameView p v w
+  pub unwritten : new_text edits p ≡ None → SameView p v w
   pub written : (said : List ℕ) → new_text edits p ≡ Some said → w ≡ literal_of said
 
 pub data Thin (edits : Edits) : List Assertion → List Assertion → Type 0 where
@@ -135,16 +135,16 @@ thin_put edits p v u t = go (new_text edits p) refl
 stands_put : (edits : Edits) (p : Place) (v u : Value) → SameView p v u
     → StandsFor edits p v (put literal_of edits p u)
 stands_put edits p v u same =
-    record { kept = kept (new_text edits p); written = literal_there (new_text edits p) }
+    record { unwritten = unwritten (new_text edits p); written = literal_there (new_text edits p) }
   where
-    kept : (o : Option (List ℕ)) → o ≡ None → SameView p v (written_or literal_of o u)
-    kept None e = same
-    kept (Some said) e = absurd cc
+    unwritten : (o : Option (List ℕ)) → o ≡ None → SameView p v (written_or literal_of o u)
+    unwritten None e = same
+    unwritten (Some said) e = absurd cc
 
     literal_there : (o : Option (List ℕ)) (said : List ℕ) → o ≡ Some said
         → written_or literal_of o u ≡ literal_of said
     literal_there None said e = absurd cc
-    literal_there (Some told) said e = let is : told ≡ said = cc in ap literal_of is
+    literal_there (Some new) said e = let is : new ≡ said = cc in ap literal_of is
 
 -- ---- a value that is replaced inside shows the same
 

@@ -125,7 +125,7 @@ thin_kind edits q made xs ys u (swap by p v w us vs e t) =
     by_test (same_place p q)
     (λ h. ap (λ c. option_map (view_of_kind made q) (cond c (Some (leaf v)) (kind_at us q))) h
     ∙ ap Some (subst (λ r. view_of_value made r v ≡ view_of_value made r w) (same_place_is p q h)
-    (e.kept (ap (λ r. new_text edits r) (same_place_is p q h) ∙ u.same) made))
+    (e.unwritten (ap (λ r. new_text edits r) (same_place_is p q h) ∙ u.same) made))
     ∙ sym (ap (λ c. option_map (view_of_kind made q) (cond c (Some (leaf w)) (kind_at vs q))) h))
     (λ h. ap (λ c. option_map (view_of_kind made q) (cond c (Some (leaf v)) (kind_at us q))) h ∙
     thin_kind edits q made us vs u t

@@ -205,10 +205,10 @@ value_listed form p clash e =
     (leaf_listed p (assertions form) e)) in
     (r.0, r.1, sym r.2)
 
-told_leaf : (p : Place) (a : Assertion) (made : List Assertion) → Among a made → leaf_place a ≡ Some p
+leaf_found : (p : Place) (a : Assertion) (made : List Assertion) → Among a made → leaf_place a ≡ Some p
     → list_any (λ a. same_place a.place p && is_leaf a.kind) made ≡ true
-told_leaf p a [] m e = absurd m
-told_leaf p a (b ∷ made) (inl h) e =
+leaf_found p a [] m e = absurd m
+leaf_found p a (b ∷ made) (inl h) e =
     ap (λ (z : Assertion). (same_place z.place p && is_leaf z.kind) || list_any
     (λ a. same_place a.place p && is_leaf a.kind) made) (sym h) ∙
     ap (λ c. c || list_any (λ a. same_place a.place p && is_leaf a.kind) made) (here (is_leaf a.kind) refl e)
@@ -218,7 +218,7 @@ told_leaf p a (b ∷ made) (inl h) e =
     here false k h = absurd cc
     here true k h = let same : a.place ≡ p = cc in
         ap₂ (λ b c. b && c) (ap (λ q. same_place q p) same ∙ same_place_self p) k
-told_leaf p a (b ∷ made) (inr m) e = later (same_place b.place p && is_leaf b.kind) (told_leaf p a made m e)
+leaf_found p a (b ∷ made) (inr m) e = later (same_place b.place p && is_leaf b.kind) (leaf_found p a made m e)
   where
     later : (c : Bool) → list_any (λ a. same_place a.place p && is_leaf a.kind) made ≡ true
         → (c || list_any (λ a. same_place a.place p && is_leaf a.kind) made) ≡ true
@@ -231,4 +231,4 @@ listed_value form w m =
     let listed = subst (λ (l : List Place). Among w.place l) (sym (lines_leaves [] [] form.lines))
     (among_map (λ (z : PlacedValue). z.place) w (values form) m) in
     let a = filter_among leaf_place w.place (assertions form) listed in
-    told_leaf w.place a.0 (assertions form) a.1 a.2
+    leaf_found w.place a.0 (assertions form) a.1 a.2

@@ -12,12 +12,12 @@ use Rattle.edit_syntax.specs.declared.read.syntax_tokens.TokenKind.{TokenKind}
 use Rattle.edit_syntax.specs.declared.read.syntax_tokens.TokenKind.TheVariants as kinds
 use Rattle.edit_syntax.specs.Reading.{◌>>=◌}
 use Rattle.edit_tree.specs.Nodes.{Shape, scalar_shape, ModelNode, bytes_of, RepresentsNodes}
-use Rattle.edit_tree.specs.Walk.{State, token_value, last_of, without_last, with_key_part, value_added, value_closed, span_of_mark, scalar_added, act, step, start, state_after}
+use Rattle.edit_tree.specs.Walk.{State, token_value, last_of, without_last, with_key_part, value_added, value_closed, span_of_token, scalar_added, act, step, start, state_after}
 use Rattle.edit_tree.specs.WalkState.{Walks, HasNextState, IsDecodedAt, has_token_value, IsToken, KeepsState}
 use Rattle.edit_tree.proofs.Below.{all_at}
 use Rattle.edit_tree.proofs.Ends.{take_length}
 use Rattle.edit_syntax.proofs.ListElements.{drop_from}
-use Rattle.edit_tree.proofs.SpotNodes.{spot_of_node, holds_set}
+use Rattle.edit_tree.proofs.ModelNodes.{model_of_node, holds_set}
 use Rattle.edit_tree.proofs.Walks.{walked_first, walked_stops, walked_none}
 use Rattle.edit_tree.proofs.WalkSteps.{turns}
 
@@ -26,12 +26,12 @@ use Rattle.edit_tree.proofs.WalkSteps.{turns}
 abbrev pub spanned : ModelNode → Option Span → ModelNode
 spanned s span = record s { span = span }
 
-pub holds_spanned : {text : List ℕ} (nodes : List Node) (spots : List ModelNode) (t : ℕ) (old : Node) (s : ModelNode)
-    (span : Option Span) → RepresentsNodes text nodes spots → slice_get nodes t ≡ Some old → slice_get spots t ≡ Some s
-    → RepresentsNodes text (slice_set nodes t (record old { span = span })) (slice_set spots t (spanned s span))
-holds_spanned nodes spots t old s span holds a b =
+pub holds_spanned : {text : List ℕ} (nodes : List Node) (models : List ModelNode) (t : ℕ) (old : Node) (s : ModelNode)
+    (span : Option Span) → RepresentsNodes text nodes models → slice_get nodes t ≡ Some old → slice_get models t ≡ Some s
+    → RepresentsNodes text (slice_set nodes t (record old { span = span })) (slice_set models t (spanned s span))
+holds_spanned nodes models t old s span holds a b =
     let k = holds.each t old s a b in
-    holds_set nodes spots t (record old { span = span }) (spanned s span) holds
+    holds_set nodes models t (record old { span = span }) (spanned s span) holds
     (slice_get_within nodes t old a)
     (record {
       shape = k.shape;
@@ -44,24 +44,24 @@ holds_spanned nodes spots t old s span holds a b =
     })
 
 closed_is : (st : State) (to number : ℕ) (s : ModelNode) → last_of st.tables ≡ Some number
-    → slice_get st.spots number ≡ Some s
+    → slice_get st.models number ≡ Some s
     → value_closed st to ≡ (s.span >>= λ span. let next : State = record {
-      spots = slice_set st.spots number (spanned s (Some (record { from = span.from; to = to })));
+      models = slice_set st.models number (spanned s (Some (record { from = span.from; to = to })));
       tables = without_last st.tables;
       fronts = st.fronts;
       name = st.name;
     } in Some next)
 closed_is st to number s t e =
-    ap (λ (o : Option ℕ). o >>= λ k. slice_get st.spots k >>= λ x. x.span >>= λ span.
+    ap (λ (o : Option ℕ). o >>= λ k. slice_get st.models k >>= λ x. x.span >>= λ span.
     let next : State = record {
-      spots = slice_set st.spots k (spanned x (Some (record { from = span.from; to = to })));
+      models = slice_set st.models k (spanned x (Some (record { from = span.from; to = to })));
       tables = without_last st.tables;
       fronts = st.fronts;
       name = st.name;
     } in Some next) t
     ∙ ap (λ (o : Option ModelNode). o >>= λ x. x.span >>= λ span.
     let next : State = record {
-      spots = slice_set st.spots number (spanned x (Some (record { from = span.from; to = to })));
+      models = slice_set st.models number (spanned x (Some (record { from = span.from; to = to })));
       tables = without_last st.tables;
       fronts = st.fronts;
       name = st.name;
@@ -77,13 +77,13 @@ pub goes_closed : {text : List ℕ} (old walk : Walk) (st : State) (to number : 
     → walk.name ≡ old.name → HasNextState text walk (value_closed st to) true
 goes_closed {text} old walk st to number node span w top lt is has ns ts fs n =
     let there = slice_get_read old.nodes.items (length old.nodes.items) number node refl lt is in
-    let s = spot_of_node old.nodes.items st.spots number node w.holds.len there in
+    let s = model_of_node old.nodes.items st.models number node w.holds.len there in
     let k = w.holds.each number node s.0 there s.1 in
     let top2 : last_of st.tables ≡ Some number = ap last_of (sym w.tables) ∙ top in
     let has2 : s.0.span ≡ Some span = sym k.span ∙ has in
     let span2 : Option Span = Some (record { from = span.from; to = to }) in
     let next : State = record {
-      spots = slice_set st.spots number (spanned s.0 span2);
+      models = slice_set st.models number (spanned s.0 span2);
       tables = without_last st.tables;
       fronts = st.fronts;
       name = st.name;
@@ -91,14 +91,14 @@ goes_closed {text} old walk st to number node span w top lt is has ns ts fs n =
       next,
       closed_is st to number s.0 top2 s.1 ∙
           ap (λ (o : Option Span). o >>= λ sp. let next2 : State = record {
-            spots = slice_set st.spots number (spanned s.0 (Some (record { from = sp.from; to = to })));
+            models = slice_set st.models number (spanned s.0 (Some (record { from = sp.from; to = to })));
             tables = without_last st.tables;
             fronts = st.fronts;
             name = st.name;
           } in Some next2) has2,
       record {
-        holds = subst (λ (xs : List Node). RepresentsNodes text xs (slice_set st.spots number (spanned s.0 span2)))
-            (sym ns) (holds_spanned old.nodes.items st.spots number node s.0 span2 w.holds there s.1);
+        holds = subst (λ (xs : List Node). RepresentsNodes text xs (slice_set st.models number (spanned s.0 span2)))
+            (sym ns) (holds_spanned old.nodes.items st.models number node s.0 span2 w.holds there s.1);
         tables = ts ∙ ap without_last w.tables;
         fronts = ap (map (bytes_of text)) fs ∙ w.fronts;
         name = ap (option_map (bytes_of text)) n ∙ w.name;
@@ -110,11 +110,11 @@ pub closed_bare : {text : List ℕ} (old : Walk) (st : State) (to number : ℕ) 
     → node ≡ get_or old.nodes.items number node → node.span ≡ None → value_closed st to ≡ None
 closed_bare old st to number node w top lt is has =
     let there = slice_get_read old.nodes.items (length old.nodes.items) number node refl lt is in
-    let s = spot_of_node old.nodes.items st.spots number node w.holds.len there in
+    let s = model_of_node old.nodes.items st.models number node w.holds.len there in
     let k = w.holds.each number node s.0 there s.1 in
     closed_is st to number s.0 (ap last_of (sym w.tables) ∙ top) s.1 ∙
     ap (λ (o : Option Span). o >>= λ sp. let next2 : State = record {
-      spots = slice_set st.spots number (spanned s.0 (Some (record { from = sp.from; to = to })));
+      models = slice_set st.models number (spanned s.0 (Some (record { from = sp.from; to = to })));
       tables = without_last st.tables;
       fronts = st.fronts;
       name = st.name;
@@ -140,11 +140,11 @@ named_by : (walk old : Walk) (bytes : List ℕ) (m : SyntaxToken) (st : State) (
     → ((n : List ℕ) → IsDecodedAt bytes m n → bytes_of bytes s ≡ n)
     → ((x : State) → Walks bytes old x → Walks bytes walk (with_key_part x (bytes_of bytes s)))
     → HasNextState bytes walk (step bytes m st) true
-named_by walk old bytes m st s k kind says does w token told waits =
-    let t = token (ap has_token_value kind ∙ says) in
+named_by walk old bytes m st s k kind says does w is_token names waits =
+    let t = is_token (ap has_token_value kind ∙ says) in
     let here : step bytes m st ≡ Some (with_key_part st (bytes_of bytes s)) =
     step_is bytes m st k kind ∙ does ∙ ap (λ (o : Option (List ℕ)). o >>= λ n. Some (with_key_part st n)) t.1 ∙
-    ap (λ (n : List ℕ). Some (with_key_part st n)) (sym (told t.0 t.2)) in
+    ap (λ (n : List ℕ). Some (with_key_part st n)) (sym (names t.0 t.2)) in
     (with_key_part st (bytes_of bytes s), here, waits st w)
 
 pub goes_named : (walk old : Walk) (bytes : List ℕ) (m : SyntaxToken) (st : State) (s : DecodedText)
@@ -158,35 +158,35 @@ goes_named walk old bytes m st s (inr (inl e)) = named_by walk old bytes m st s 
 goes_named walk old bytes m st s (inr (inr e)) = named_by walk old bytes m st s kinds.LiteralPart e refl refl
 
 -- a string, a number, a date or a time
-word_by : (bytes : List ℕ) (m : SyntaxToken) (st : State) (s : Shape) (k : TokenKind) → m.kind ≡ k
+value_step_by : (bytes : List ℕ) (m : SyntaxToken) (st : State) (s : Shape) (k : TokenKind) → m.kind ≡ k
     → has_token_value k ≡ true
     → act k bytes m st ≡ scalar_added bytes m st → IsToken bytes m
     → ((n : List ℕ) → IsDecodedAt bytes m n → s ≡ scalar_shape m.kind n)
-    → step bytes m st ≡ value_added st s (Some (span_of_mark m))
-word_by bytes m st s k kind says does token told =
-    let t = token (ap has_token_value kind ∙ says) in
+    → step bytes m st ≡ value_added st s (Some (span_of_token m))
+value_step_by bytes m st s k kind says does is_token names =
+    let t = is_token (ap has_token_value kind ∙ says) in
     step_is bytes m st k kind ∙ does ∙
-    ap (λ (o : Option (List ℕ)). o >>= λ n. value_added st (scalar_shape m.kind n) (Some (span_of_mark m))) t.1 ∙
-    ap (λ (x : Shape). value_added st x (Some (span_of_mark m))) (sym (told t.0 t.2))
+    ap (λ (o : Option (List ℕ)). o >>= λ n. value_added st (scalar_shape m.kind n) (Some (span_of_token m))) t.1 ∙
+    ap (λ (x : Shape). value_added st x (Some (span_of_token m))) (sym (names t.0 t.2))
 
 -- a mark of a string, a number, a date or a time
-abbrev pub IsWorded : TokenKind → Type 0
-IsWorded k =
+abbrev pub IsScalarToken : TokenKind → Type 0
+IsScalarToken k =
     (k ≡ kinds.BasicString)
     ⊎ ((k ≡ kinds.LiteralString) ⊎ ((k ≡ kinds.MultiBasicString) ⊎ ((k ≡ kinds.MultiLiteralString)
     ⊎ ((k ≡ kinds.Integer) ⊎ ((k ≡ kinds.Float) ⊎ (k ≡ kinds.DateTime))))))
 
-pub word_step : (bytes : List ℕ) (m : SyntaxToken) (st : State) (s : Shape) → IsWorded m.kind
+pub value_step : (bytes : List ℕ) (m : SyntaxToken) (st : State) (s : Shape) → IsScalarToken m.kind
     → IsToken bytes m
     → ((n : List ℕ) → IsDecodedAt bytes m n → s ≡ scalar_shape m.kind n)
-    → step bytes m st ≡ value_added st s (Some (span_of_mark m))
-word_step bytes m st s (inl e) = word_by bytes m st s kinds.BasicString e refl refl
-word_step bytes m st s (inr (inl e)) = word_by bytes m st s kinds.LiteralString e refl refl
-word_step bytes m st s (inr (inr (inl e))) = word_by bytes m st s kinds.MultiBasicString e refl refl
-word_step bytes m st s (inr (inr (inr (inl e)))) = word_by bytes m st s kinds.MultiLiteralString e refl refl
-word_step bytes m st s (inr (inr (inr (inr (inl e))))) = word_by bytes m st s kinds.Integer e refl refl
-word_step bytes m st s (inr (inr (inr (inr (inr (inl e)))))) = word_by bytes m st s kinds.Float e refl refl
-word_step bytes m st s (inr (inr (inr (inr (inr (inr e)))))) = word_by bytes m st s kinds.DateTime e refl refl
+    → step bytes m st ≡ value_added st s (Some (span_of_token m))
+value_step bytes m st s (inl e) = value_step_by bytes m st s kinds.BasicString e refl refl
+value_step bytes m st s (inr (inl e)) = value_step_by bytes m st s kinds.LiteralString e refl refl
+value_step bytes m st s (inr (inr (inl e))) = value_step_by bytes m st s kinds.MultiBasicString e refl refl
+value_step bytes m st s (inr (inr (inr (inl e)))) = value_step_by bytes m st s kinds.MultiLiteralString e refl refl
+value_step bytes m st s (inr (inr (inr (inr (inl e))))) = value_step_by bytes m st s kinds.Integer e refl refl
+value_step bytes m st s (inr (inr (inr (inr (inr (inl e)))))) = value_step_by bytes m st s kinds.Float e refl refl
+value_step bytes m st s (inr (inr (inr (inr (inr (inr e)))))) = value_step_by bytes m st s kinds.DateTime e refl refl
 
 -- the end of an array or of an inline table
 pub close_step : (bytes : List ℕ) (m : SyntaxToken) (st : State) → (m.kind ≡ kinds.CloseArray)
@@ -226,33 +226,33 @@ abbrev pub Turns : Walk → Walk → List ℕ → SyntaxToken → Bool → Type 
 Turns walk new bytes m b = (st : State) → Walks bytes walk st → IsToken bytes m
     → HasNextState bytes new (step bytes m st) b
 
-left_at : (walk : Walk) (bytes : List ℕ) (marks : List SyntaxToken) (i : ℕ) (d : SyntaxToken)
-    → i < length marks
-    → Along walk bytes marks (drop i marks) → Along walk bytes marks (get_or marks i d ∷ drop (i + 1) marks)
-left_at walk bytes marks i d lt a = subst (Along walk bytes marks)
-    (drop_from marks i (get_or marks i d) (slice_get-get_or marks i d lt)) a
+left_at : (walk : Walk) (bytes : List ℕ) (tokens : List SyntaxToken) (i : ℕ) (d : SyntaxToken)
+    → i < length tokens
+    → Along walk bytes tokens (drop i tokens) → Along walk bytes tokens (get_or tokens i d ∷ drop (i + 1) tokens)
+left_at walk bytes tokens i d lt a = subst (Along walk bytes tokens)
+    (drop_from tokens i (get_or tokens i d) (slice_get-get_or tokens i d lt)) a
 
-token_there : (bytes : List ℕ) (marks : List SyntaxToken) (i : ℕ) (d : SyntaxToken) → i < length marks
-    → AllByRecursion (IsToken bytes) marks → IsToken bytes (get_or marks i d)
-token_there bytes marks i d lt h = all_at (IsToken bytes) marks i (get_or marks i d) h
-    (slice_get-get_or marks i d lt)
+token_there : (bytes : List ℕ) (tokens : List SyntaxToken) (i : ℕ) (d : SyntaxToken) → i < length tokens
+    → AllByRecursion (IsToken bytes) tokens → IsToken bytes (get_or tokens i d)
+token_there bytes tokens i d lt h = all_at (IsToken bytes) tokens i (get_or tokens i d) h
+    (slice_get-get_or tokens i d lt)
 
-pub turn_on : (walk new : Walk) (bytes : List ℕ) (marks : List SyntaxToken) (i : ℕ) (d : SyntaxToken) (b : Bool)
-    → i < length marks → AllByRecursion (IsToken bytes) marks → b ≡ true
-    → Turns walk new bytes (get_or marks i d) b → Along walk bytes marks (drop i marks)
-    → Along new bytes marks (drop (i + 1) marks)
-turn_on walk new bytes marks i d b lt tokens on turns a =
-    let here = left_at walk bytes marks i d lt a in
-    along_next walk new bytes marks (drop (i + 1) marks) (get_or marks i d) here
-    (subst (λ (x : Bool). HasNextState bytes new (step bytes (get_or marks i d) here.state) x) on
-    (turns here.state here.walks (token_there bytes marks i d lt tokens)))
+pub turn_on : (walk new : Walk) (bytes : List ℕ) (tokens : List SyntaxToken) (i : ℕ) (d : SyntaxToken) (b : Bool)
+    → i < length tokens → AllByRecursion (IsToken bytes) tokens → b ≡ true
+    → Turns walk new bytes (get_or tokens i d) b → Along walk bytes tokens (drop i tokens)
+    → Along new bytes tokens (drop (i + 1) tokens)
+turn_on walk new bytes tokens i d b lt are_tokens on turns a =
+    let here = left_at walk bytes tokens i d lt a in
+    along_next walk new bytes tokens (drop (i + 1) tokens) (get_or tokens i d) here
+    (subst (λ (x : Bool). HasNextState bytes new (step bytes (get_or tokens i d) here.state) x) on
+    (turns here.state here.walks (token_there bytes tokens i d lt are_tokens)))
 
-pub turn_off : (walk new : Walk) (bytes : List ℕ) (marks : List SyntaxToken) (i : ℕ) (d : SyntaxToken) (b : Bool)
-    → i < length marks → AllByRecursion (IsToken bytes) marks → b ≡ false
-    → Turns walk new bytes (get_or marks i d) b → Along walk bytes marks (drop i marks)
-    → state_after bytes marks start ≡ None
-turn_off walk new bytes marks i d b lt tokens off turns a =
-    let here = left_at walk bytes marks i d lt a in
-    along_stop walk bytes marks (drop (i + 1) marks) (get_or marks i d) here
-    (subst (λ (x : Bool). HasNextState bytes new (step bytes (get_or marks i d) here.state) x) off
-    (turns here.state here.walks (token_there bytes marks i d lt tokens)))
+pub turn_off : (walk new : Walk) (bytes : List ℕ) (tokens : List SyntaxToken) (i : ℕ) (d : SyntaxToken) (b : Bool)
+    → i < length tokens → AllByRecursion (IsToken bytes) tokens → b ≡ false
+    → Turns walk new bytes (get_or tokens i d) b → Along walk bytes tokens (drop i tokens)
+    → state_after bytes tokens start ≡ None
+turn_off walk new bytes tokens i d b lt are_tokens off turns a =
+    let here = left_at walk bytes tokens i d lt a in
+    along_stop walk bytes tokens (drop (i + 1) tokens) (get_or tokens i d) here
+    (subst (λ (x : Bool). HasNextState bytes new (step bytes (get_or tokens i d) here.state) x) off
+    (turns here.state here.walks (token_there bytes tokens i d lt are_tokens)))

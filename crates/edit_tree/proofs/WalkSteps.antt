@@ -26,7 +26,7 @@ pub awaits : {text : List ℕ} (old walk : Walk) (st : State) (name : DecodedTex
     → walk.fronts.items ≡ old.fronts.items ++ option_to_list old.name → walk.name ≡ Some name
     → Walks text walk (with_key_part st (bytes_of text name))
 awaits {text} old walk st name w ns ts fs n = record {
-  holds = subst (λ (xs : List Node). RepresentsNodes text xs st.spots) (sym ns) w.holds;
+  holds = subst (λ (xs : List Node). RepresentsNodes text xs st.models) (sym ns) w.holds;
   tables = ts ∙ w.tables;
   fronts =
       ap (map (bytes_of text)) fs ∙ map-append (bytes_of text) old.fronts.items (option_to_list old.name)
@@ -43,12 +43,12 @@ awaits {text} old walk st name w ns ts fs n = record {
 pub settled_is : (st : State) (number : ℕ) (front : DefinedBy) (shape : Shape) (taken : DefinedBy)
     (span : Option Span) (name : List ℕ) → st.name ≡ Some name
     → pending_defined st number front shape taken span
-    ≡ (fronts_followed st.spots number st.fronts
+    ≡ (fronts_followed st.models number st.fronts
     (front_shape (is_dotted_within (length st.tables) front)) front >>= λ r.
     member_defined r.0 r.1 name shape taken span >>= λ q. Some (without_pending q.0 st.tables, q.1))
 unfolding pending_defined
 settled_is st number front shape taken span name n =
-    ap (λ (o : Option (List ℕ)). o >>= λ x. fronts_followed st.spots number st.fronts
+    ap (λ (o : Option (List ℕ)). o >>= λ x. fronts_followed st.models number st.fronts
     (front_shape (is_dotted_within (length st.tables) front)) front >>= λ r.
     member_defined r.0 r.1 x shape taken span >>= λ q. Some (without_pending q.0 st.tables, q.1)) n
 
@@ -61,17 +61,17 @@ settled_unnamed st number front shape taken span n = rw n refl
 pub reach_of : (text : List ℕ) (nodes : List Node) (st : State) (number : ℕ) (names : List (List ℕ))
     (within : Bool) (front : DefinedBy) (r : Option ℕ) → names ≡ st.fronts
     → within ≡ is_dotted_within (length st.tables) front
-    → HasNodeAt text nodes (fronts_followed st.spots number names (front_shape within) front) r
-    → HasNodeAt text nodes (fronts_followed st.spots number st.fronts
+    → HasNodeAt text nodes (fronts_followed st.models number names (front_shape within) front) r
+    → HasNodeAt text nodes (fronts_followed st.models number st.fronts
     (front_shape (is_dotted_within (length st.tables) front)) front) r
 reach_of text nodes st number names within front r a b h =
     subst (λ (ns : List (List ℕ)). HasNodeAt text nodes
-    (fronts_followed st.spots number ns (front_shape (is_dotted_within (length st.tables) front)) front) r) a
-    (subst (λ (x : Bool). HasNodeAt text nodes (fronts_followed st.spots number names (front_shape x) front) r) b h)
+    (fronts_followed st.models number ns (front_shape (is_dotted_within (length st.tables) front)) front) r) a
+    (subst (λ (x : Bool). HasNodeAt text nodes (fronts_followed st.models number names (front_shape x) front) r) b h)
 
 pub settled_unreached : (st : State) (number : ℕ) (front : DefinedBy) (shape : Shape) (taken : DefinedBy)
     (span : Option Span) (name : List ℕ) → st.name ≡ Some name
-    → fronts_followed st.spots number st.fronts (front_shape (is_dotted_within (length st.tables) front)) front ≡ None
+    → fronts_followed st.models number st.fronts (front_shape (is_dotted_within (length st.tables) front)) front ≡ None
     → pending_defined st number front shape taken span ≡ None
 settled_unreached st number front shape taken span name n none =
     settled_is st number front shape taken span name n ∙
@@ -79,22 +79,22 @@ settled_unreached st number front shape taken span name n none =
     (without_pending q.0 st.tables, q.1)) none
 
 pub settles : (text : List ℕ) (walk : Walk) (st : State) (number : ℕ) (front : DefinedBy) (shape : Shape)
-    (taken : DefinedBy) (span : Option Span) (name : List ℕ) (spots : List ModelNode) (table : ℕ) (r : Option ℕ)
+    (taken : DefinedBy) (span : Option Span) (name : List ℕ) (models : List ModelNode) (table : ℕ) (r : Option ℕ)
     → st.name ≡ Some name
-    → fronts_followed st.spots number st.fronts (front_shape (is_dotted_within (length st.tables) front)) front
-    ≡ Some (spots, table) → walk.tables.items ≡ st.tables → walk.fronts.items ≡ [] → walk.name ≡ None
-    → HasNodeAt text walk.nodes.items (member_defined spots table name shape taken span) r
+    → fronts_followed st.models number st.fronts (front_shape (is_dotted_within (length st.tables) front)) front
+    ≡ Some (models, table) → walk.tables.items ≡ st.tables → walk.fronts.items ≡ [] → walk.name ≡ None
+    → HasNodeAt text walk.nodes.items (member_defined models table name shape taken span) r
     → HasDefinedState text walk (pending_defined st number front shape taken span) r
-settles text walk st number front shape taken span name spots table r n reach ts fs none puts =
+settles text walk st number front shape taken span name models table r n reach ts fs none puts =
     let first : pending_defined st number front shape taken span
-    ≡ (member_defined spots table name shape taken span >>= λ q. Some (without_pending q.0 st.tables, q.1)) =
+    ≡ (member_defined models table name shape taken span >>= λ q. Some (without_pending q.0 st.tables, q.1)) =
     settled_is st number front shape taken span name n ∙
     ap (λ (o : Option (List ModelNode × ℕ)). o >>= λ x. member_defined x.0 x.1 name shape taken span >>= λ q. Some
     (without_pending q.0 st.tables, q.1)) reach in
     subst (λ (o : Option (State × ℕ)). HasDefinedState text walk o r) (sym first) (go r puts)
   where
-    go : (r : Option ℕ) → HasNodeAt text walk.nodes.items (member_defined spots table name shape taken span) r
-        → HasDefinedState text walk (member_defined spots table name shape taken span >>= λ q. Some
+    go : (r : Option ℕ) → HasNodeAt text walk.nodes.items (member_defined models table name shape taken span) r
+        → HasDefinedState text walk (member_defined models table name shape taken span >>= λ q. Some
         (without_pending q.0 st.tables, q.1)) r
     go None e = ap (λ (o : Option (List ModelNode × ℕ)). o >>= λ q. Some (without_pending q.0 st.tables, q.1)) e
     go (Some k) (made, e, holds) = (
@@ -115,20 +115,20 @@ entered_is st shape span number name t n =
     ap (λ (o : Option ℕ). o >>= λ k. value_added_below st.name st k shape span) t ∙
     ap (λ (o : Option (List ℕ)). value_added_below o st number shape span) n
 
-abbrev spots_of_state : State → List ModelNode × ℕ → Option (State × ℕ)
-spots_of_state st q = Some (record st { spots = q.0 }, q.1)
+abbrev models_of_state : State → List ModelNode × ℕ → Option (State × ℕ)
+models_of_state st q = Some (record st { models = q.0 }, q.1)
 
 -- where no key waits an element stands in the innermost array
 pub enters_element : (st : State) (shape : Shape) (span : Option Span) (number : ℕ)
     → last_of st.tables ≡ Some number → st.name ≡ None → value_added_at st shape span
-    ≡ (element_added st.spots number shape Value span >>= λ q. spots_of_state st q)
+    ≡ (element_added st.models number shape Value span >>= λ q. models_of_state st q)
 enters_element st shape span number t n =
     ap (λ (o : Option ℕ). o >>= λ k. value_added_below st.name st k shape span) t ∙
     ap (λ (o : Option (List ℕ)). value_added_below o st number shape span) n
 
 pub settles_element : {text : List ℕ} (old walk : Walk) (st : State) (shape : Shape) (span : Option Span)
     (number : ℕ) (r : Option ℕ) → Walks text old st → last_of old.tables.items ≡ Some number → old.name ≡ None
-    → HasNodeAt text walk.nodes.items (element_added st.spots number shape Value span) r
+    → HasNodeAt text walk.nodes.items (element_added st.models number shape Value span) r
     → walk.tables.items ≡ old.tables.items → walk.fronts.items ≡ old.fronts.items → walk.name ≡ old.name
     → HasDefinedState text walk (value_added_at st shape span) r
 settles_element {text} old walk st shape span number r w top bare puts ts fs n =
@@ -136,12 +136,12 @@ settles_element {text} old walk st shape span number r w top bare puts ts fs n =
     subst (λ (o : Option (State × ℕ)). HasDefinedState text walk o r)
     (sym (enters_element st shape span number (ap last_of (sym w.tables) ∙ top) name)) (go r puts)
   where
-    go : (r : Option ℕ) → HasNodeAt text walk.nodes.items (element_added st.spots number shape Value span) r
-        → HasDefinedState text walk (element_added st.spots number shape Value span >>= λ q. spots_of_state st q) r
-    go None e = ap (λ (o : Option (List ModelNode × ℕ)). o >>= λ q. spots_of_state st q) e
+    go : (r : Option ℕ) → HasNodeAt text walk.nodes.items (element_added st.models number shape Value span) r
+        → HasDefinedState text walk (element_added st.models number shape Value span >>= λ q. models_of_state st q) r
+    go None e = ap (λ (o : Option (List ModelNode × ℕ)). o >>= λ q. models_of_state st q) e
     go (Some k) (made, e, holds) = (
-      record st { spots = made },
-      ap (λ (o : Option (List ModelNode × ℕ)). o >>= λ q. spots_of_state st q) e,
+      record st { models = made },
+      ap (λ (o : Option (List ModelNode × ℕ)). o >>= λ q. models_of_state st q) e,
       record {
         holds = holds;
         tables = ts ∙ w.tables;
@@ -176,7 +176,7 @@ goes_opened text middle walk st shape span number (next, e, w) ns ts fs n = (
   record next { tables = next.tables ++ number ∷ [] },
   ap (λ (o : Option (State × ℕ)). o >>= λ r. Some (record r.0 { tables = r.0.tables ++ r.1 ∷ [] })) e,
   record {
-    holds = subst (λ (xs : List Node). RepresentsNodes text xs next.spots) (sym ns) w.holds;
+    holds = subst (λ (xs : List Node). RepresentsNodes text xs next.models) (sym ns) w.holds;
     tables = ts ∙ ap (λ (xs : List ℕ). xs ++ number ∷ []) w.tables;
     fronts = ap (map (bytes_of text)) fs ∙ w.fronts;
     name = ap (option_map (bytes_of text)) n ∙ w.name;
@@ -194,7 +194,7 @@ pub turns : {text : List ℕ} (old walk : Walk) (st : State) (number : ℕ) → 
     → walk.fronts.items ≡ old.fronts.items → walk.name ≡ old.name
     → Walks text walk (record st { tables = number ∷ [] })
 turns {text} old walk st number w ns ts fs n = record {
-  holds = subst (λ (xs : List Node). RepresentsNodes text xs st.spots) (sym ns) w.holds;
+  holds = subst (λ (xs : List Node). RepresentsNodes text xs st.models) (sym ns) w.holds;
   tables = ts;
   fronts = ap (map (bytes_of text)) fs ∙ w.fronts;
   name = ap (option_map (bytes_of text)) n ∙ w.name;
@@ -213,8 +213,8 @@ pub headed_refused : (text : List ℕ) (middle : Walk) (st : State)
 headed_refused text middle st e = ap (λ (o : Option (State × ℕ)). o >>= λ r. Some (with_only_table r)) e
 
 abbrev pub with_element_of : State × ℕ → Option State
-with_element_of r = element_added r.0.spots r.1 section Element None >>= λ q. Some
-    (with_only_table (record r.0 { spots = q.0 }, q.1))
+with_element_of r = element_added r.0.models r.1 section Element None >>= λ q. Some
+    (with_only_table (record r.0 { models = q.0 }, q.1))
 
 pub element_unheaded : (text : List ℕ) (middle : Walk) (st : State)
     → HasDefinedState text middle (pending_defined st 0 Super sections Array None) None
@@ -223,33 +223,33 @@ element_unheaded text middle st e = ap (λ (o : Option (State × ℕ)). o >>= λ
 
 pub element_refused : (text : List ℕ) (middle : Walk) (nodes : List Node) (st : State) (number : ℕ)
     → HasDefinedState text middle (pending_defined st 0 Super sections Array None) (Some number)
-    → ((spots : List ModelNode) → RepresentsNodes text middle.nodes.items spots
-    → HasNodeAt text nodes (element_added spots number section Element None) None) → array_table_opened st ≡ None
+    → ((models : List ModelNode) → RepresentsNodes text middle.nodes.items models
+    → HasNodeAt text nodes (element_added models number section Element None) None) → array_table_opened st ≡ None
 element_refused text middle nodes st number (next, e, w) stops =
     ap (λ (o : Option (State × ℕ)). o >>= λ r. with_element_of r) e ∙
-    ap (λ (o : Option (List ModelNode × ℕ)). o >>= λ q. Some (with_only_table (record next { spots = q.0 }, q.1)))
-    (stops next.spots w.holds)
+    ap (λ (o : Option (List ModelNode × ℕ)). o >>= λ q. Some (with_only_table (record next { models = q.0 }, q.1)))
+    (stops next.models w.holds)
 
 pub goes_element : (text : List ℕ) (middle walk : Walk) (nodes : Walk) (st : State) (number element : ℕ)
     → HasDefinedState text middle (pending_defined st 0 Super sections Array None) (Some number)
-    → ((spots : List ModelNode) → RepresentsNodes text middle.nodes.items spots
-    → HasNodeAt text nodes.nodes.items (element_added spots number section Element None) (Some element))
+    → ((models : List ModelNode) → RepresentsNodes text middle.nodes.items models
+    → HasNodeAt text nodes.nodes.items (element_added models number section Element None) (Some element))
     → nodes.tables.items ≡ middle.tables.items → nodes.fronts.items ≡ middle.fronts.items
     → nodes.name ≡ middle.name
     → ((s : State) → Walks text nodes s → Walks text walk (record s { tables = element ∷ [] }))
     → HasNextState text walk (array_table_opened st) true
 goes_element text middle walk nodes st number element (next, e, w) puts ts fs n turn =
-    let p = puts next.spots w.holds in
-    let inner : Walks text nodes (record next { spots = p.0 }) =
+    let p = puts next.models w.holds in
+    let inner : Walks text nodes (record next { models = p.0 }) =
     record {
       holds = p.2;
       tables = ts ∙ w.tables;
       fronts = ap (map (bytes_of text)) fs ∙ w.fronts;
       name = ap (option_map (bytes_of text)) n ∙ w.name;
     } in (
-      with_only_table (record next { spots = p.0 }, element),
+      with_only_table (record next { models = p.0 }, element),
       ap (λ (o : Option (State × ℕ)). o >>= λ r. with_element_of r) e ∙
-          ap (λ (o : Option (List ModelNode × ℕ)). o >>= λ q. Some (with_only_table (record next { spots = q.0 }, q.1)))
+          ap (λ (o : Option (List ModelNode × ℕ)). o >>= λ q. Some (with_only_table (record next { models = q.0 }, q.1)))
           p.1,
-      turn (record next { spots = p.0 }) inner,
+      turn (record next { models = p.0 }) inner,
     )

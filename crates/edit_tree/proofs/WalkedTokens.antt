@@ -22,15 +22,15 @@ use Rattle.edit_tree.proofs.Walks.{walked_first}
 pub text_is : (bytes : List ℕ) → IsUtf8 bytes → as_text bytes ≡ Some bytes
 text_is bytes u = rw (is_utf8-from_IsUtf8 bytes u) refl
 
-behind_mark : (bytes : List ℕ) (c : ℕ) (s : List ℕ) → c < 128 → IsUtf8 bytes → Ends bytes (c ∷ s) → IsUtf8 s
-behind_mark bytes c s small u h = text_behind h.0 s c small (subst IsUtf8 h.1 u)
+behind_ascii : (bytes : List ℕ) (c : ℕ) (s : List ℕ) → c < 128 → IsUtf8 bytes → Ends bytes (c ∷ s) → IsUtf8 s
+behind_ascii bytes c s small u h = text_behind h.0 s c small (subst IsUtf8 h.1 u)
 
 pub said_basic : (bytes : List ℕ) (ps : List Piece) (rest : List ℕ) (n : ℕ) → AllByRecursion IsBasicPiece ps
     → IsUtf8 bytes → Ends bytes (basic_text ps rest)
     → (basic_value (drop 1 (suffix bytes (length (basic_text ps rest)))) >>= as_text) ≡ Some (decoded_pieces quote ps)
 said_basic bytes ps rest n h u ends =
     let u2 = says_text [] ps rest h
-    (behind_mark bytes quote (pieces quote ps (quote ∷ rest)) (lit< tt) u ends) in
+    (behind_ascii bytes quote (pieces quote ps (quote ∷ rest)) (lit< tt) u ends) in
     ap (λ (s : List ℕ). basic_value (drop 1 s) >>= as_text) (suffix_is bytes (basic_text ps rest) ends)
     ∙ ap (λ (o : Option (List Piece × List ℕ)). option_map
     (λ (p : List Piece × List ℕ). decoded_pieces quote p.0) o >>= as_text) (basic_again ps rest h) ∙
@@ -41,25 +41,25 @@ pub said_literal : (bytes text rest : List ℕ) (n : ℕ) → All is_literal_ch 
     → (literal_value (drop 1 (suffix bytes (length (literal_text text rest)))) >>= as_text) ≡ Some text
 said_literal bytes text rest n h u ends =
     let u2 = text_before text rest apostrophe (lit< tt)
-    (behind_mark bytes apostrophe (text ++ (apostrophe ∷ rest)) (lit< tt) u ends) in
+    (behind_ascii bytes apostrophe (text ++ (apostrophe ∷ rest)) (lit< tt) u ends) in
     ap (λ (s : List ℕ). literal_value (drop 1 s) >>= as_text) (suffix_is bytes (literal_text text rest) ends)
     ∙ ap (λ (o : Option (List ℕ × List ℕ)). option_map (λ (p : List ℕ × List ℕ). p.0) o >>= as_text)
     (literal_again text rest h) ∙ text_is text u2
 
 -- a token that is written as it is
-pub said_word : (bytes word rest : List ℕ) → IsUtf8 word → Ends bytes (word ++ rest)
-    → as_text (take (length (word ++ rest) - length rest) (suffix bytes (length (word ++ rest)))) ≡ Some word
-said_word bytes word rest u ends =
-    let size : length (word ++ rest) ≡ length word + length rest = length-append word rest in
-    let n : length (word ++ rest) - length rest ≡ length word = omega arith in
-    ap (λ (s : List ℕ). as_text (take (length (word ++ rest) - length rest) s))
-    (suffix_is bytes (word ++ rest) ends)
-    ∙ ap (λ (k : ℕ). as_text (take k (word ++ rest))) n ∙ ap as_text (take_length word rest) ∙ text_is word u
+pub token_text_read : (bytes token_text rest : List ℕ) → IsUtf8 token_text → Ends bytes (token_text ++ rest)
+    → as_text (take (length (token_text ++ rest) - length rest) (suffix bytes (length (token_text ++ rest)))) ≡ Some token_text
+token_text_read bytes token_text rest u ends =
+    let size : length (token_text ++ rest) ≡ length token_text + length rest = length-append token_text rest in
+    let n : length (token_text ++ rest) - length rest ≡ length token_text = omega arith in
+    ap (λ (s : List ℕ). as_text (take (length (token_text ++ rest) - length rest) s))
+    (suffix_is bytes (token_text ++ rest) ends)
+    ∙ ap (λ (k : ℕ). as_text (take k (token_text ++ rest))) n ∙ ap as_text (take_length token_text rest) ∙ text_is token_text u
 
 pub said_part : (bytes : List ℕ) (p : Part) (rest : List ℕ) → IsPart p → IsUtf8 bytes
     → Ends bytes (part p rest) → token_value bytes (token_of_part p rest) ≡ Some (name p)
 unfolding token_value
-said_part bytes (bare text) rest h u ends = said_word bytes text rest
+said_part bytes (bare text) rest h u ends = token_text_read bytes text rest
     (ascii_text is_bare bare_small text h.1) ends
 said_part bytes (basic_part ps) rest h u ends = said_basic bytes ps rest 0 h u ends
 said_part bytes (literal_part text) rest h u ends = said_literal bytes text rest 0 h u ends
@@ -120,26 +120,26 @@ abbrev pub rear : List ℕ → List (List ℕ) → List ℕ
 rear n [] = n
 rear n (m ∷ ns) = rear m ns
 
-waits_behind : (spots : List ModelNode) (tables : List ℕ) (fs : List (List ℕ)) (n : List ℕ) (ns : List (List ℕ))
-    → waits (record { spots = spots; tables = tables; fronts = fs; name = Some n }) ns
-    ≡ record { spots = spots; tables = tables; fronts = fs ++ fore n ns; name = Some (rear n ns) }
-waits_behind spots tables fs n [] =
+waits_behind : (models : List ModelNode) (tables : List ℕ) (fs : List (List ℕ)) (n : List ℕ) (ns : List (List ℕ))
+    → waits (record { models = models; tables = tables; fronts = fs; name = Some n }) ns
+    ≡ record { models = models; tables = tables; fronts = fs ++ fore n ns; name = Some (rear n ns) }
+waits_behind models tables fs n [] =
     ap (λ (xs : List (List ℕ)). let st : State = record {
-      spots = spots;
+      models = models;
       tables = tables;
       fronts = xs;
       name = Some n;
     } in st) (sym (append-nil fs))
-waits_behind spots tables fs n (m ∷ ns) =
-    waits_behind spots tables (fs ++ n ∷ []) m ns
+waits_behind models tables fs n (m ∷ ns) =
+    waits_behind models tables (fs ++ n ∷ []) m ns
     ∙ ap (λ (xs : List (List ℕ)). let st : State = record {
-      spots = spots;
+      models = models;
       tables = tables;
       fronts = xs;
       name = Some (rear m ns);
     } in st) (append_assoc fs (n ∷ []) (fore m ns))
 
-pub waits_are : (spots : List ModelNode) (tables : List ℕ) (n : List ℕ) (ns : List (List ℕ))
-    → waits (without_pending spots tables) (n ∷ ns)
-    ≡ record { spots = spots; tables = tables; fronts = fore n ns; name = Some (rear n ns) }
-waits_are spots tables n ns = waits_behind spots tables [] n ns
+pub waits_are : (models : List ModelNode) (tables : List ℕ) (n : List ℕ) (ns : List (List ℕ))
+    → waits (without_pending models tables) (n ∷ ns)
+    ≡ record { models = models; tables = tables; fronts = fore n ns; name = Some (rear n ns) }
+waits_are models tables n ns = waits_behind models tables [] n ns

@@ -20,11 +20,11 @@ pub record Splice : Type 0 where
 
 -- the insertion of bytes before a suffix of the text
 abbrev pub put_before : List ℕ → List ℕ → Splice
-put_before spot now = record { from = spot; to = spot; now = now }
+put_before suffix now = record { from = suffix; to = suffix; now = now }
 
 -- the text before its suffix
 abbrev pub before : List ℕ → List ℕ → List ℕ
-before bytes spot = take (length bytes - length spot) bytes
+before bytes suffix = take (length bytes - length suffix) bytes
 
 -- the text after a replacement
 abbrev pub with_splice : List ℕ → Splice → List ℕ
@@ -91,10 +91,10 @@ abbrev pub entry_replaced : Place → NewItem → Text → Option Splice
 entry_replaced place item t = first_result replace (line_pairs t ++ inner_pairs t)
   where
     from_to : List ℕ → List ℕ → Splice
-    from_to spot behind = record { from = spot; to = behind; now = new_entry item [] }
+    from_to suffix behind = record { from = suffix; to = behind; now = new_entry item [] }
 
     replace : PlacedPair → Option Splice
-    replace p = option_map (λ spot. from_to spot p.behind) (part_to place p)
+    replace p = option_map (λ suffix. from_to suffix p.behind) (part_to place p)
 
 -- the text with the entry at a place replaced
 abbrev pub replaced_text : Place → NewItem → Text → List ℕ
@@ -180,7 +180,7 @@ front_to table p = behind_part unresolved table p.table (front_parts p.parts)
 
 -- the key of a pair up to a suffix of the text, a dot, and the member
 abbrev pub dotted_pair : PlacedPair → List ℕ → List ℕ → List ℕ
-dotted_pair p spot m = before p.from spot · codes "." · m
+dotted_pair p suffix m = before p.from suffix · codes "." · m
 
 -- the insertion into a table made by dotted keys: a line behind the last pair that passes through it, with
 -- the key of that pair up to the table, a dot and the member
@@ -188,7 +188,7 @@ abbrev pub in_dotted : Place → List ℕ → Text → Option Splice
 in_dotted table m t = last_result grow (placed_statements t)
   where
     line_of : PlacedStatement → PlacedPair → Option Splice
-    line_of s p = option_map (λ spot. new_line s.after (dotted_pair p spot m)) (front_to table p)
+    line_of s p = option_map (λ suffix. new_line s.after (dotted_pair p suffix m)) (front_to table p)
 
     grow : PlacedStatement → Option Splice
     grow s = first_result (line_of s) (paired_statement s)
@@ -199,7 +199,7 @@ abbrev pub in_inner_dotted : Place → List ℕ → Text → Option Splice
 in_inner_dotted table m t = last_result grow (inner_pairs t)
   where
     grow : PlacedPair → Option Splice
-    grow p = option_map (λ spot. put_before p.behind (codes ", " · dotted_pair p spot m)) (front_to table p)
+    grow p = option_map (λ suffix. put_before p.behind (codes ", " · dotted_pair p suffix m)) (front_to table p)
 
 -- the insertion into a table that only headers pass through: its own header and the member, before the line
 -- of the first such header
@@ -211,7 +211,7 @@ in_super table m t = first_result grow (headers t)
 
     grow : PlacedHeader → Option Splice
     grow h =
-        option_map (λ spot. put_before h.line (section (before h.from spot)))
+        option_map (λ suffix. put_before h.line (section (before h.from suffix)))
         (behind_part (last_element_or_self h.earlier) table [] (front_parts h.parts))
 
 -- the insertion into the root where it has no pair of its own: at the start of the text, behind U+FEFF

@@ -8,7 +8,7 @@ use Rattle.std.specs.BTreeMap.{BTreeMap, get_by_text}
 use Rattle.edit_syntax.specs.declared.span.Span.{Span}
 use Rattle.edit_syntax.specs.Spans.{bytes_at}
 use Rattle.edit_tree.specs.declared.nodes.DecodedText.{DecodedText}
-use Rattle.edit_tree.specs.declared.nodes.DecodedText.TheVariants.{Kept, Made}
+use Rattle.edit_tree.specs.declared.nodes.DecodedText.TheVariants.{Verbatim, Made}
 use Rattle.edit_tree.specs.declared.nodes.Content.{Content}
 use Rattle.edit_tree.specs.declared.nodes.Content.TheVariants as content
 use Rattle.edit_tree.specs.declared.nodes.DefinedBy.{DefinedBy}
@@ -69,12 +69,12 @@ model_node_view s = (s.place, view_of_shape s.shape (names_of s) (length s.eleme
 
 -- the decoded text of a string or of a part of a key
 abbrev pub bytes_of : List ℕ → DecodedText → List ℕ
-bytes_of text (Kept span) = bytes_at text span
+bytes_of text (Verbatim span) = bytes_at text span
 bytes_of text (Made boxed) = string_bytes boxed.value
 
 -- the shape that the content of a node represents
 abbrev pub shape_of : List ℕ → Content → Shape
-shape_of text (content.Text words) = scalar (string (bytes_of text words))
+shape_of text (content.Text decoded) = scalar (string (bytes_of text decoded))
 shape_of text (content.Truth b) = scalar (truth b)
 shape_of text (content.Integer span) = scalar (whole (bytes_at text span))
 shape_of text (content.Float span) = scalar (fractional (bytes_at text span))
@@ -149,26 +149,26 @@ abbrev pub IsIndexed : List ℕ → Members → Type 0
 IsIndexed text members = IsIndexedBy text members.parts
 
 -- a node represents a node of the model; of its place it stores the number of steps
-pub record RepresentsNode (text : List ℕ) (node : Node) (spot : ModelNode) : Type 0 where
-  pub shape : shape_of text node.content ≡ spot.shape
-  pub taken : node.taken ≡ spot.taken
-  pub steps : node.steps ≡ length spot.place
-  pub members : entries_of text node.members ≡ spot.members
+pub record RepresentsNode (text : List ℕ) (node : Node) (model : ModelNode) : Type 0 where
+  pub shape : shape_of text node.content ≡ model.shape
+  pub taken : node.taken ≡ model.taken
+  pub steps : node.steps ≡ length model.place
+  pub members : entries_of text node.members ≡ model.members
   pub indexed : IsIndexed text node.members
-  pub elements : elements_of node.members ≡ spot.elements
-  pub span : node.span ≡ spot.span
+  pub elements : elements_of node.members ≡ model.elements
+  pub span : node.span ≡ model.span
 
 -- each node represents the node of the model at its index
-pub record RepresentsNodes (text : List ℕ) (nodes : List Node) (spots : List ModelNode) : Type 0 where
-  pub len : length nodes ≡ length spots
-  pub each : (n : ℕ) (node : Node) (spot : ModelNode) → slice_get nodes n ≡ Some node
-      → slice_get spots n ≡ Some spot → RepresentsNode text node spot
+pub record RepresentsNodes (text : List ℕ) (nodes : List Node) (models : List ModelNode) : Type 0 where
+  pub len : length nodes ≡ length models
+  pub each : (n : ℕ) (node : Node) (model : ModelNode) → slice_get nodes n ≡ Some node
+      → slice_get models n ≡ Some model → RepresentsNode text node model
 
 -- ---- places
 
 -- the node at this index is at this place
 abbrev pub StandsAt : List ModelNode → ℕ → Place → Type 0
-StandsAt spots n place = (s : ModelNode) × (slice_get spots n ≡ Some s) × (s.place ≡ place)
+StandsAt models n place = (s : ModelNode) × (slice_get models n ≡ Some s) × (s.place ≡ place)
 
 -- the index of the child of a node at this step
 abbrev pub below : ModelNode → Step → Option ℕ
@@ -176,20 +176,20 @@ below s (key name) = lookup (λ n. bytes_eq name n) s.members
 below s (index i) = slice_get s.elements i
 
 -- the place is a child of a node of the model, which lists it at this index
-pub record IsBelow (spots : List ModelNode) (number : ℕ) (place : Place) : Type 0 where
+pub record IsBelow (models : List ModelNode) (number : ℕ) (place : Place) : Type 0 where
   pub upper : ModelNode
   pub above : ℕ
   pub step : Step
-  pub stands : slice_get spots above ≡ Some upper
+  pub stands : slice_get models above ≡ Some upper
   pub place_is : place ≡ at upper.place step
   pub listed : below upper step ≡ Some number
 
 -- the nodes of a tree: the root comes first, no two nodes have the same place, and each node but the root is
 -- listed as the child of its parent
-pub record IsTree (spots : List ModelNode) : Type 0 where
-  pub root : StandsAt spots 0 []
-  pub unique : (i j : ℕ) (s t : ModelNode) → slice_get spots i ≡ Some s → slice_get spots j ≡ Some t
+pub record IsTree (models : List ModelNode) : Type 0 where
+  pub root : StandsAt models 0 []
+  pub unique : (i j : ℕ) (s t : ModelNode) → slice_get models i ≡ Some s → slice_get models j ≡ Some t
       → s.place ≡ t.place → i ≡ j
-  pub down : (i j : ℕ) (s : ModelNode) (step : Step) → slice_get spots i ≡ Some s → below s step ≡ Some j
-      → StandsAt spots j (at s.place step)
-  pub up : (j : ℕ) (t : ModelNode) → slice_get spots j ≡ Some t → (t.place ≡ []) ⊎ IsBelow spots j t.place
+  pub down : (i j : ℕ) (s : ModelNode) (step : Step) → slice_get models i ≡ Some s → below s step ≡ Some j
+      → StandsAt models j (at s.place step)
+  pub up : (j : ℕ) (t : ModelNode) → slice_get models j ≡ Some t → (t.place ≡ []) ⊎ IsBelow models j t.place

@@ -96,7 +96,7 @@ replaced_lines write edits earlier prefix (more_lines (full_line a s b c) e ls) 
 
 -- the syntax tree of a text with the value at each place of the edits replaced, as written by `Writer`
 abbrev pub replaced_by : Writer → Edits → Text → Text
-replaced_by write edits t = record { marked = t.marked; lines = replaced_lines write edits [] [] t.lines }
+replaced_by write edits t = record { has_byte_order_mark = t.has_byte_order_mark; lines = replaced_lines write edits [] [] t.lines }
 
 -- the syntax tree of a text with the value at each place of the edits replaced by a string literal
 abbrev pub replaced : Edits → Text → Text
@@ -168,7 +168,7 @@ pub record Replaces (edits : Edits) (old new : List ℕ) : Type 0 where
   pub form : Text
   pub was : IsDocument old form
   pub bytes : new ≡ text (replaced edits form)
-  pub kept : Swaps literal_of (edited edits form) old new
+  pub swaps : Swaps literal_of (edited edits form) old new
   pub is : IsDocument new (replaced edits form)
   pub tree : (place : Place)
       → view_at (replaced edits form) place

@@ -36,7 +36,7 @@ literal_value text = option_map (λ p. p.0) (literal_at text)
 
 -- the decoded value of a multi-line string; the input begins behind its opening delimiter
 abbrev pub multi_value : ℕ → List ℕ → Option (List ℕ)
-multi_value mark text = option_map (λ p. decoded_multi mark p.0) (multi_at mark text)
+multi_value delimiter_byte text = option_map (λ p. decoded_multi delimiter_byte p.0) (multi_at delimiter_byte text)
 
 -- the decoded value of a token of this kind and length at the front of a text
 abbrev pub decoded_prefix : TokenKind → List ℕ → ℕ → Option (List ℕ)
@@ -69,7 +69,7 @@ model_node_at place shape taken span =
 
 -- the index of the member of this name of the node at an index
 unfoldable pub child : List ModelNode → ℕ → List ℕ → Option ℕ
-child spots number name = slice_get spots number >>= λ s. below s (key name)
+child models number name = slice_get models number >>= λ s. below s (key name)
 
 -- the index of the last table of an array of tables
 abbrev pub last_table : Shape → List ℕ → Option ℕ
@@ -78,9 +78,9 @@ last_table _ numbers = None
 
 -- the index of the node to extend: a header that passes through an array of tables refers to its last element
 unfoldable pub target_of : List ModelNode → ℕ → DefinedBy → ℕ
-target_of spots number Super =
-    unwrap_or (slice_get spots number >>= λ s. last_table s.shape s.elements) number
-target_of spots number _ = number
+target_of models number Super =
+    unwrap_or (slice_get models number >>= λ s. last_table s.shape s.elements) number
+target_of models number _ = number
 
 -- a node with another way in which it counts as defined
 abbrev pub with_definition : ModelNode → DefinedBy → ModelNode
@@ -88,8 +88,8 @@ with_definition s taken = record s { taken = merged_definition s.taken taken }
 
 -- the nodes after one is extended; none where TOML does not allow it
 unfoldable pub node_extended : List ModelNode → ℕ → DefinedBy → Option (List ModelNode)
-node_extended spots number taken = slice_get spots number >>= λ s.
-    if can_extend s.taken taken then Some (slice_set spots number (with_definition s taken)) else None
+node_extended models number taken = slice_get models number >>= λ s.
+    if can_extend s.taken taken then Some (slice_set models number (with_definition s taken)) else None
 
 -- a node with one more member
 abbrev pub with_member : ModelNode → List ℕ → ℕ → ModelNode
@@ -102,41 +102,41 @@ with_element s number = record s { elements = s.elements ++ number ∷ [] }
 -- the nodes with a new member of one of them, and the index of the new one; none beyond 80 steps
 unfoldable pub member_added : List ModelNode → ℕ → List ℕ → Shape → DefinedBy → Option Span
     → Option (List ModelNode × ℕ)
-member_added spots number name shape taken span = slice_get spots number >>= λ s.
+member_added models number name shape taken span = slice_get models number >>= λ s.
     if nat_le 80 (length s.place) then None
     else Some (
-      slice_set spots number (with_member s name (length spots))
+      slice_set models number (with_member s name (length models))
           ++ model_node_at (at s.place (key name)) shape taken span ∷ [],
-      length spots,
+      length models,
     )
 
 -- the nodes with a new element of one of them, and the index of the new one; none beyond 80 steps
 unfoldable pub element_added : List ModelNode → ℕ → Shape → DefinedBy → Option Span
     → Option (List ModelNode × ℕ)
-element_added spots number shape taken span = slice_get spots number >>= λ s.
+element_added models number shape taken span = slice_get models number >>= λ s.
     if nat_le 80 (length s.place) then None
     else Some (
-      slice_set spots number (with_element s (length spots))
+      slice_set models number (with_element s (length models))
           ++ model_node_at (at s.place (index (length s.elements))) shape taken span ∷ [],
-      length spots,
+      length models,
     )
 
 -- the nodes, with the index of one of them
 abbrev pub with_index : ℕ → Option (List ModelNode) → Option (List ModelNode × ℕ)
-with_index number o = option_map (λ spots. (spots, number)) o
+with_index number o = option_map (λ models. (models, number)) o
 
 -- the nodes after the member at this index is extended, or after a member is added where there is none
 abbrev pub member_defined_at : Option ℕ → List ModelNode → ℕ → List ℕ → Shape → DefinedBy → Option Span
     → Option (List ModelNode × ℕ)
-member_defined_at None spots number name shape taken span = member_added spots number name shape taken span
-member_defined_at (Some j) spots number name shape taken span =
-    with_index (target_of spots j taken) (node_extended spots (target_of spots j taken) taken)
+member_defined_at None models number name shape taken span = member_added models number name shape taken span
+member_defined_at (Some j) models number name shape taken span =
+    with_index (target_of models j taken) (node_extended models (target_of models j taken) taken)
 
 -- the nodes after a member of one of them is defined, and the index of the defined node
 unfoldable pub member_defined : List ModelNode → ℕ → List ℕ → Shape → DefinedBy → Option Span
     → Option (List ModelNode × ℕ)
-member_defined spots number name shape taken span =
-    member_defined_at (child spots number name) spots number name shape taken span
+member_defined models number name shape taken span =
+    member_defined_at (child models number name) models number name shape taken span
 
 -- the shape of a table that a front part of a key makes
 abbrev pub front_shape : Bool → Shape
@@ -146,16 +146,16 @@ front_shape is_inline = if is_inline then inline else section
 -- last part
 unfoldable pub fronts_followed : List ModelNode → ℕ → List (List ℕ) → Shape → DefinedBy
     → Option (List ModelNode × ℕ)
-fronts_followed spots number [] shape taken = Some (spots, number)
-fronts_followed spots number (name ∷ names) shape taken =
-    member_defined spots number name shape taken None >>= λ r. fronts_followed r.0 r.1 names shape taken
+fronts_followed models number [] shape taken = Some (models, number)
+fronts_followed models number (name ∷ names) shape taken =
+    member_defined models number name shape taken None >>= λ r. fronts_followed r.0 r.1 names shape taken
 
 -- ---- the walk
 
 -- the state of the walk: the nodes so far, the indices of the open tables and arrays (the innermost last),
 -- and the pending key, split into its last part and the parts before it
 pub record State : Type 0 where
-  pub spots : List ModelNode
+  pub models : List ModelNode
   pub tables : List ℕ
   pub fronts : List (List ℕ)
   pub name : Option (List ℕ)
@@ -170,7 +170,7 @@ with_key_part st name = record st { fronts = st.fronts ++ option_to_list st.name
 
 -- a state without a pending key
 abbrev pub without_pending : List ModelNode → List ℕ → State
-without_pending spots tables = record { spots = spots; tables = tables; fronts = []; name = None }
+without_pending models tables = record { models = models; tables = tables; fronts = []; name = None }
 
 -- a dotted key is in an inline table: more tables are open than that of the header
 abbrev pub is_dotted_within : ℕ → DefinedBy → Bool
@@ -180,7 +180,7 @@ is_dotted_within count _ = false
 -- the state after the pending key is defined below a table, and the index of its node
 unfoldable pub pending_defined : State → ℕ → DefinedBy → Shape → DefinedBy → Option Span → Option (State × ℕ)
 pending_defined st number front shape taken span = st.name
-    >>= λ name. fronts_followed st.spots number st.fronts
+    >>= λ name. fronts_followed st.models number st.fronts
     (front_shape (is_dotted_within (length st.tables) front)) front >>= λ r.
     member_defined r.0 r.1 name shape taken span >>= λ q. Some (without_pending q.0 st.tables, q.1)
 
@@ -188,7 +188,7 @@ pending_defined st number front shape taken span = st.name
 abbrev pub value_added_below : Option (List ℕ) → State → ℕ → Shape → Option Span → Option (State × ℕ)
 value_added_below (Some name) st number shape span = pending_defined st number Dotted shape Value span
 value_added_below None st number shape span =
-    element_added st.spots number shape Value span >>= λ q. Some (record st { spots = q.0 }, q.1)
+    element_added st.models number shape Value span >>= λ q. Some (record st { models = q.0 }, q.1)
 
 -- the state after a value is added to the innermost table or array, and the index of its node
 abbrev pub value_added_at : State → Shape → Option Span → Option (State × ℕ)
@@ -206,9 +206,9 @@ value_opened st shape span =
 -- the state after the innermost array or inline table is closed; its text ends n bytes before the end of the
 -- text
 abbrev pub value_closed : State → ℕ → Option State
-value_closed st to = last_of st.tables >>= λ number. slice_get st.spots number >>= λ s. s.span >>= λ span.
+value_closed st to = last_of st.tables >>= λ number. slice_get st.models number >>= λ s. s.span >>= λ span.
     Some (record st {
-      spots = slice_set st.spots number
+      models = slice_set st.models number
           (record s { span = Some (record { from = span.from; to = to }) });
       tables = without_last st.tables;
     })
@@ -224,17 +224,17 @@ table_opened st = pending_defined st 0 Super section Header None >>= λ r. Some 
 -- the state after the pending key becomes a header `[[key]]`
 abbrev pub array_table_opened : State → Option State
 array_table_opened st =
-    pending_defined st 0 Super sections Array None >>= λ r. element_added r.0.spots r.1 section Element None >>= λ q.
-    Some (with_only_table (record r.0 { spots = q.0 }, q.1))
+    pending_defined st 0 Super sections Array None >>= λ r. element_added r.0.models r.1 section Element None >>= λ q.
+    Some (with_only_table (record r.0 { models = q.0 }, q.1))
 
 -- the span of a token
-abbrev pub span_of_mark : SyntaxToken → Span
-span_of_mark m = record { from = m.from; to = m.to }
+abbrev pub span_of_token : SyntaxToken → Span
+span_of_token m = record { from = m.from; to = m.to }
 
 -- the state after a string, a number, a date or a time is added
 abbrev pub scalar_added : List ℕ → SyntaxToken → State → Option State
 scalar_added bytes m st = token_value bytes m >>= λ text. value_added st (scalar_shape m.kind text) (Some
-    (span_of_mark m))
+    (span_of_token m))
 
 -- the state after a token of this kind
 abbrev pub act : TokenKind → List ℕ → SyntaxToken → State → Option State
@@ -248,11 +248,11 @@ act kinds.MultiLiteralString bytes m st = scalar_added bytes m st
 act kinds.Integer bytes m st = scalar_added bytes m st
 act kinds.Float bytes m st = scalar_added bytes m st
 act kinds.DateTime bytes m st = scalar_added bytes m st
-act kinds.True bytes m st = value_added st (scalar (truth true)) (Some (span_of_mark m))
-act kinds.False bytes m st = value_added st (scalar (truth false)) (Some (span_of_mark m))
-act kinds.OpenArray bytes m st = value_opened st listed (Some (span_of_mark m))
+act kinds.True bytes m st = value_added st (scalar (truth true)) (Some (span_of_token m))
+act kinds.False bytes m st = value_added st (scalar (truth false)) (Some (span_of_token m))
+act kinds.OpenArray bytes m st = value_opened st listed (Some (span_of_token m))
 act kinds.CloseArray bytes m st = value_closed st m.to
-act kinds.OpenTable bytes m st = value_opened st inline (Some (span_of_mark m))
+act kinds.OpenTable bytes m st = value_opened st inline (Some (span_of_token m))
 act kinds.CloseTable bytes m st = value_closed st m.to
 act kinds.Header bytes m st = table_opened st
 act kinds.ElementHeader bytes m st = array_table_opened st

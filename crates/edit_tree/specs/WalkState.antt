@@ -11,19 +11,19 @@ use Rattle.edit_tree.specs.Walk.{State, token_value}
 
 -- the nodes represent the result, or there is no result and the function returns false
 abbrev pub HasNodes : List ℕ → List Node → Option (List ModelNode) → Bool → Type 0
-HasNodes text nodes made true = (spots : List ModelNode) × (made ≡ Some spots)
-    × RepresentsNodes text nodes spots
+HasNodes text nodes made true = (models : List ModelNode) × (made ≡ Some models)
+    × RepresentsNodes text nodes models
 HasNodes text nodes made false = made ≡ None
 
 -- the nodes represent the result and the returned index is that of the result, or there is none
 abbrev pub HasNodeAt : List ℕ → List Node → Option (List ModelNode × ℕ) → Option ℕ → Type 0
 HasNodeAt text nodes made None = made ≡ None
 HasNodeAt text nodes made (Some number) =
-    (spots : List ModelNode) × (made ≡ Some (spots, number)) × RepresentsNodes text nodes spots
+    (models : List ModelNode) × (made ≡ Some (models, number)) × RepresentsNodes text nodes models
 
 -- the walk represents this state
 pub record Walks (text : List ℕ) (walk : Walk) (st : State) : Type 0 where
-  pub holds : RepresentsNodes text walk.nodes.items st.spots
+  pub holds : RepresentsNodes text walk.nodes.items st.models
   pub tables : walk.tables.items ≡ st.tables
   pub fronts : map (bytes_of text) walk.fronts.items ≡ st.fronts
   pub name : option_map (bytes_of text) walk.name ≡ st.name
@@ -41,7 +41,7 @@ HasDefinedState text walk next (Some number) = (st : State) × (next ≡ Some (s
 -- the nodes represent those of a state
 abbrev pub KeepsState : List ℕ → List Node → Option State → Type 0
 KeepsState text nodes None = ⊥
-KeepsState text nodes (Some st) = RepresentsNodes text nodes st.spots
+KeepsState text nodes (Some st) = RepresentsNodes text nodes st.models
 
 -- ---- tokens
 

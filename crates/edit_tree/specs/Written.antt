@@ -82,7 +82,7 @@ end_of total w = total - length w.after
 -- the value at a place is written from one offset to another
 pub record IsWrittenAt (t : Text) (place : Place) (start end : ℕ) : Type 0 where
   pub placed_value : PlacedValue
-  pub told : Contains (values t) placed_value
+  pub listed : Contains (values t) placed_value
   pub there : placed_value.place ≡ place
   pub starts : start ≡ start_of (length (text t)) placed_value
   pub ends : end ≡ end_of (length (text t)) placed_value

@@ -53,8 +53,8 @@ fn merged_definition(before: DefinedBy, after: DefinedBy) -> DefinedBy
 
 /// Extends a node that is already defined. Returns false where TOML does not allow it.
 fn extend_node(nodes: &mut Vec<Node>, number: usize, taken: DefinedBy) -> bool
-    ensures { (text : List ℕ) (spots : List ModelNode) → RepresentsNodes text nodes.old.items spots
-        → HasNodes text nodes.new.items (node_extended spots number taken) result }
+    ensures { (text : List ℕ) (models : List ModelNode) → RepresentsNodes text nodes.old.items models
+        → HasNodes text nodes.new.items (node_extended models number taken) result }
 {
     if number >= nodes.len() {
         return false;
@@ -70,8 +70,8 @@ fn extend_node(nodes: &mut Vec<Node>, number: usize, taken: DefinedBy) -> bool
 
 /// The index of the node's member of this name.
 fn find(text: &str, nodes: &[Node], number: usize, name: &str) -> Option<usize>
-    ensures { (spots : List ModelNode) → RepresentsNodes text.now nodes.now spots
-        → result ≡ child spots number name.now }
+    ensures { (models : List ModelNode) → RepresentsNodes text.now nodes.now models
+        → result ≡ child models number name.now }
 {
     if number >= nodes.len() {
         return None;
@@ -100,8 +100,8 @@ fn last_table(node: &Node) -> Option<usize>
 
 /// The index of the last element where the node is an array of tables, else `number`.
 fn last_element(nodes: &[Node], number: usize) -> usize
-    ensures { (text : List ℕ) (spots : List ModelNode) → RepresentsNodes text nodes.now spots
-        → result ≡ target_of spots number Super }
+    ensures { (text : List ℕ) (models : List ModelNode) → RepresentsNodes text nodes.now models
+        → result ≡ target_of models number Super }
 {
     if number >= nodes.len() {
         return number;
@@ -111,8 +111,8 @@ fn last_element(nodes: &[Node], number: usize) -> usize
 
 /// The node to extend: a header that passes through an array of tables refers to its last element.
 fn target(nodes: &[Node], number: usize, taken: DefinedBy) -> usize
-    ensures { (text : List ℕ) (spots : List ModelNode) → RepresentsNodes text nodes.now spots
-        → result ≡ target_of spots number taken }
+    ensures { (text : List ℕ) (models : List ModelNode) → RepresentsNodes text nodes.now models
+        → result ≡ target_of models number taken }
 {
     match taken {
         DefinedBy::Super => last_element(nodes, number),
@@ -137,10 +137,10 @@ fn add(
     name: DecodedText,
     definition: Definition,
 ) -> Result<Option<usize>, AllocError>
-    ensures added { (spots : List ModelNode) → RepresentsNodes text.now nodes.old.items spots
-        → child spots number (bytes_of text.now name) ≡ None
+    ensures added { (models : List ModelNode) → RepresentsNodes text.now nodes.old.items models
+        → child models number (bytes_of text.now name) ≡ None
         → IfOk result (HasNodeAt text.now nodes.new.items
-        (member_added spots number (bytes_of text.now name) (shape_of text.now definition.content)
+        (member_added models number (bytes_of text.now name) (shape_of text.now definition.content)
         definition.taken definition.span)) }
 {
     let count = nodes.len();
@@ -173,9 +173,9 @@ pub(crate) fn add_element(
     taken: DefinedBy,
     span: Option<Span>,
 ) -> Result<Option<usize>, AllocError>
-    ensures added { (text : List ℕ) (spots : List ModelNode) → RepresentsNodes text nodes.old.items spots
+    ensures added { (text : List ℕ) (models : List ModelNode) → RepresentsNodes text nodes.old.items models
         → IfOk result (HasNodeAt text nodes.new.items
-        (element_added spots number (shape_of text content) taken span)) }
+        (element_added models number (shape_of text content) taken span)) }
 {
     let count = nodes.len();
     if number >= count {
@@ -207,9 +207,9 @@ pub(crate) fn assert_member(
     name: DecodedText,
     definition: Definition,
 ) -> Result<Option<usize>, AllocError>
-    ensures made { (spots : List ModelNode) → RepresentsNodes text.now nodes.old.items spots
+    ensures made { (models : List ModelNode) → RepresentsNodes text.now nodes.old.items models
         → IfOk result (HasNodeAt text.now nodes.new.items
-        (member_defined spots number (bytes_of text.now name) (shape_of text.now definition.content)
+        (member_defined models number (bytes_of text.now name) (shape_of text.now definition.content)
         definition.taken definition.span)) }
 {
     let Some(member) = find(text, nodes, number, decoded_str(text, &name)) else {
@@ -233,9 +233,9 @@ pub(crate) fn follow_fronts(
     is_inline: bool,
     taken: DefinedBy,
 ) -> Result<Option<usize>, AllocError>
-    ensures made { (spots : List ModelNode) → RepresentsNodes text.now nodes.old.items spots
+    ensures made { (models : List ModelNode) → RepresentsNodes text.now nodes.old.items models
         → IfOk result (HasNodeAt text.now nodes.new.items
-        (fronts_followed spots number (map (bytes_of text.now) fronts.now) (front_shape is_inline) taken)) }
+        (fronts_followed models number (map (bytes_of text.now) fronts.now) (front_shape is_inline) taken)) }
 {
     let mut table = number;
     'fronts: for front in fronts {

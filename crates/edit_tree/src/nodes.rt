@@ -15,7 +15,7 @@ use std::collections::BTreeMap;
 #[derive(Drop)]
 pub enum DecodedText {
     /// It is the text between the delimiters as written, at this position.
-    Kept(Span),
+    Verbatim(Span),
     /// It differs from the text as written, because of an escape or a line fold.
     Made(Box<String>),
 }
@@ -259,31 +259,31 @@ fn is_span_text(text: &str, span: Span, name: &str) -> bool
 }
 
 /// Whether a name equals the decoded text.
-fn is_named(text: &str, words: &DecodedText, name: &str) -> bool
-    ensures { result ≡ bytes_eq name.now (bytes_of text.now words.now) }
+fn is_named(text: &str, decoded: &DecodedText, name: &str) -> bool
+    ensures { result ≡ bytes_eq name.now (bytes_of text.now decoded.now) }
 {
-    match words {
-        DecodedText::Kept(span) => is_span_text(text, *span, name),
+    match decoded {
+        DecodedText::Verbatim(span) => is_span_text(text, *span, name),
         DecodedText::Made(said) => name == said.as_str(),
     }
 }
 
 /// The decoded text of a string or of a part of a key.
-pub fn decoded_str<'a>(text: &'a str, words: &'a DecodedText) -> &'a str
-    ensures { result.now ≡ bytes_of text.now words.now }
+pub fn decoded_str<'a>(text: &'a str, decoded: &'a DecodedText) -> &'a str
+    ensures { result.now ≡ bytes_of text.now decoded.now }
 {
-    match words {
-        DecodedText::Kept(span) => span_text(text, *span),
+    match decoded {
+        DecodedText::Verbatim(span) => span_text(text, *span),
         DecodedText::Made(said) => said.as_str(),
     }
 }
 
 /// A copy of the decoded text.
-pub(crate) fn clone_decoded(alloc: Global, words: &DecodedText) -> Result<DecodedText, AllocError>
-    ensures same { (text : List ℕ) → IfOk result (λ copy. bytes_of text copy ≡ bytes_of text words.now) }
+pub(crate) fn clone_decoded(alloc: Global, decoded: &DecodedText) -> Result<DecodedText, AllocError>
+    ensures same { (text : List ℕ) → IfOk result (λ copy. bytes_of text copy ≡ bytes_of text decoded.now) }
 {
-    match words {
-        DecodedText::Kept(span) => Ok(DecodedText::Kept(*span)),
+    match decoded {
+        DecodedText::Verbatim(span) => Ok(DecodedText::Verbatim(*span)),
         DecodedText::Made(said) => {
             let copy = String::from_str(alloc, said.as_str())?;
             Ok(DecodedText::Made(Box::new(alloc, copy)?))

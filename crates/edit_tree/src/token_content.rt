@@ -12,41 +12,41 @@ use std::alloc::Global;
 
 /// Decodes a token with or without delimiters; where the decoded text is the text as written, only its
 /// position is stored.
-fn decode_delimited(alloc: Global, text: &str, mark: SyntaxToken) -> CargoResult<DecodedText>
-    ensures says { (name : List ℕ) → IsDecodedAt text.now mark name
+fn decode_delimited(alloc: Global, text: &str, token: SyntaxToken) -> CargoResult<DecodedText>
+    ensures says { (name : List ℕ) → IsDecodedAt text.now token name
         → IfOk result (λ w. bytes_of text.now w ≡ name) }
     ensures error { IfErr result IsMemory }
 {
-    let written = content(text, mark);
-    if is_plain(mark.kind, written) {
-        Ok(DecodedText::Kept(content_span(mark)))
+    let written = content(text, token);
+    if is_plain(token.kind, written) {
+        Ok(DecodedText::Verbatim(content_span(token)))
     } else {
-        Ok(DecodedText::Made(Box::new(alloc, decoded_text(alloc, mark.kind, written)?)?))
+        Ok(DecodedText::Made(Box::new(alloc, decoded_text(alloc, token.kind, written)?)?))
     }
 }
 
 /// Decodes the token of a string or of a part of a key.
-pub fn decode_token(alloc: Global, text: &str, mark: SyntaxToken) -> CargoResult<DecodedText>
-    ensures says { (name : List ℕ) → IsDecodedAt text.now mark name
+pub fn decode_token(alloc: Global, text: &str, token: SyntaxToken) -> CargoResult<DecodedText>
+    ensures says { (name : List ℕ) → IsDecodedAt text.now token name
         → IfOk result (λ w. bytes_of text.now w ≡ name) }
     ensures error { IfErr result IsMemory }
 {
-    match mark.kind {
-        TokenKind::BarePart => Ok(DecodedText::Kept(content_span(mark))),
-        _ => decode_delimited(alloc, text, mark),
+    match token.kind {
+        TokenKind::BarePart => Ok(DecodedText::Verbatim(content_span(token))),
+        _ => decode_delimited(alloc, text, token),
     }
 }
 
 /// The content of the node of a string, a number, a date or a time.
-pub(crate) fn scalar_content(alloc: Global, text: &str, mark: SyntaxToken) -> CargoResult<Content>
-    ensures shows { (name : List ℕ) → IsDecodedAt text.now mark name
-        → IfOk result (λ c. shape_of text.now c ≡ scalar_shape mark.kind name) }
+pub(crate) fn scalar_content(alloc: Global, text: &str, token: SyntaxToken) -> CargoResult<Content>
+    ensures shows { (name : List ℕ) → IsDecodedAt text.now token name
+        → IfOk result (λ c. shape_of text.now c ≡ scalar_shape token.kind name) }
     ensures error { IfErr result IsMemory }
 {
-    match mark.kind {
-        TokenKind::Integer => Ok(Content::Integer(content_span(mark))),
-        TokenKind::Float => Ok(Content::Float(content_span(mark))),
-        TokenKind::DateTime => Ok(Content::DateTime(content_span(mark))),
-        _ => Ok(Content::Text(decode_token(alloc, text, mark)?)),
+    match token.kind {
+        TokenKind::Integer => Ok(Content::Integer(content_span(token))),
+        TokenKind::Float => Ok(Content::Float(content_span(token))),
+        TokenKind::DateTime => Ok(Content::DateTime(content_span(token))),
+        _ => Ok(Content::Text(decode_token(alloc, text, token)?)),
     }
 }

@@ -212,18 +212,18 @@ impl Walk {
     }
 
     /// Processes the next token; returns false where TOML does not allow it here.
-    fn process_token(&mut self, alloc: Global, text: &str, mark: SyntaxToken) -> CargoResult<bool>
-        ensures goes { (st : State) → Walks text.now self.old st → IsToken text.now mark
-            → IfOk result (HasNextState text.now self.new (step text.now mark st)) }
+    fn process_token(&mut self, alloc: Global, text: &str, token: SyntaxToken) -> CargoResult<bool>
+        ensures goes { (st : State) → Walks text.now self.old st → IsToken text.now token
+            → IfOk result (HasNextState text.now self.new (step text.now token st)) }
         ensures error { IfErr result IsMemory }
     {
         let span = Span {
-            from: mark.from,
-            to: mark.to,
+            from: token.from,
+            to: token.to,
         };
-        match mark.kind {
+        match token.kind {
             TokenKind::BarePart | TokenKind::BasicPart | TokenKind::LiteralPart => {
-                let name = decode_token(alloc, text, mark)?;
+                let name = decode_token(alloc, text, token)?;
                 self.push_key_part(name)?;
                 Ok(true)
             }
@@ -234,14 +234,14 @@ impl Walk {
             | TokenKind::Integer
             | TokenKind::Float
             | TokenKind::DateTime => {
-                let content = scalar_content(alloc, text, mark)?;
+                let content = scalar_content(alloc, text, token)?;
                 self.add_value(alloc, text, content, Some(span))
             }
             TokenKind::True => self.add_value(alloc, text, Content::Truth(true), Some(span)),
             TokenKind::False => self.add_value(alloc, text, Content::Truth(false), Some(span)),
             TokenKind::OpenArray => self.open(alloc, text, Content::Array, span),
             TokenKind::OpenTable => self.open(alloc, text, Content::Inline, span),
-            TokenKind::CloseArray | TokenKind::CloseTable => Ok(self.close(mark.to)),
+            TokenKind::CloseArray | TokenKind::CloseTable => Ok(self.close(token.to)),
             TokenKind::Header => self.open_header_table(alloc, text),
             TokenKind::ElementHeader => self.open_array_table(alloc, text),
         }
@@ -249,17 +249,17 @@ impl Walk {
 }
 
 /// Builds the nodes of a text from its tokens.
-pub fn nodes_of(alloc: Global, text: &str, marks: &[SyntaxToken]) -> CargoResult<Vec<Node>>
-    ensures nodes { AllByRecursion (IsToken text.now) marks.now
-        → MatchResult result (λ v. KeepsState text.now v.items (state_after text.now marks.now start))
-        (λ e. (IsMemory e → ⊥) → state_after text.now marks.now start ≡ None) }
+pub fn nodes_of(alloc: Global, text: &str, tokens: &[SyntaxToken]) -> CargoResult<Vec<Node>>
+    ensures nodes { AllByRecursion (IsToken text.now) tokens.now
+        → MatchResult result (λ v. KeepsState text.now v.items (state_after text.now tokens.now start))
+        (λ e. (IsMemory e → ⊥) → state_after text.now tokens.now start ≡ None) }
     ensures error { IfErr result (IsTokenizeError (length text.now)) }
 {
-    let mut walk = Walk::new(alloc, marks.len())?;
-    'marks: for mark in marks {
-        if !walk.process_token(alloc, text, *mark)? {
+    let mut walk = Walk::new(alloc, tokens.len())?;
+    'tokens: for token in tokens {
+        if !walk.process_token(alloc, text, *token)? {
             return Err(Error::NotToml {
-                at: text.len().saturating_sub(mark.from as usize),
+                at: text.len().saturating_sub(token.from as usize),
             });
         }
     }

@@ -155,7 +155,7 @@ join_more done (x ∷ xs) s = join_more (joins done x) xs s
 -- ---- features that cannot be read
 
 -- features that cannot be read count as none, if memory did not run out
-pub refused_texts : (told : Result (Option (List (List ℕ))) EntryError) (e : Error) → IsErrorOfResult told e
-    → (IsMemory e → ⊥) → [] ≡ texts_or_none told
-refused_texts told e (inl memory) not_memory = absurd (not_memory memory)
-refused_texts told e (inr h) not_memory = rw h.1 refl
+pub refused_texts : (result : Result (Option (List (List ℕ))) EntryError) (e : Error) → IsErrorOfResult result e
+    → (IsMemory e → ⊥) → [] ≡ texts_or_none result
+refused_texts result e (inl memory) not_memory = absurd (not_memory memory)
+refused_texts result e (inr h) not_memory = rw h.1 refl

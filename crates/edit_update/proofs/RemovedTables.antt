@@ -122,24 +122,24 @@ module _ (path : List (List ℕ)) (name : List ℕ) (old : DocumentViews) (form 
         rest;
   }
 
-  kept : (m : Option (List ℕ)) (o : Option View) (e : Error) → m ≡ None → (o ≡ None → ⊥)
+  entry_there : (m : Option (List ℕ)) (o : Option View) (e : Error) → m ≡ None → (o ≡ None → ⊥)
       → (e ≡ EditRefused) × HasFailedEntryRemoval path name old.bytes
       → IsRemovalError path name old.bytes m o e
-  kept None None e tables stood why = absurd (stood refl)
-  kept None (Some v) e tables stood why = why
-  kept (Some s) o e tables stood why = absurd cc
+  entry_there None None e tables stood why = absurd (stood refl)
+  entry_there None (Some v) e tables stood why = why
+  entry_there (Some s) o e tables stood why = absurd cc
 
   refused_for : (e : Error) → missing_table (tree_of old) path ≡ None → (tree_of old p ≡ None → ⊥)
       → (e ≡ EditRefused) × HasFailedEntryRemoval path name old.bytes → IsEntryRemovalError path name old e
   refused_for e tables stood why =
-      inr (kept (missing_table (tree_of old) path) (tree_of old (entry_of path name)) e tables
+      inr (entry_there (missing_table (tree_of old) path) (tree_of old (entry_of path name)) e tables
       (subst (λ q. tree_of old q ≡ None → ⊥) place_is stood) why)
 
   -- the entry cannot be removed
-  pub entry_kept : (e : Error) → missing_table (tree_of old) path ≡ None → (tree_of old p ≡ None → ⊥)
+  pub entry_fails : (e : Error) → missing_table (tree_of old) path ≡ None → (tree_of old p ≡ None → ⊥)
       → IsMemory e ⊎ ((e ≡ EditRefused) × RemoveFails p old.bytes) → IsEntryRemovalError path name old e
-  entry_kept e tables stood (inl memory) = inl memory
-  entry_kept e tables stood (inr why) =
+  entry_fails e tables stood (inl memory) = inl memory
+  entry_fails e tables stood (inr why) =
       refused_for e tables stood (
         why.0,
         entry_stays (first_stays (entry_of path name) [] old.bytes
@@ -147,13 +147,13 @@ module _ (path : List (List ℕ)) (name : List ℕ) (old : DocumentViews) (form 
       )
 
   -- its table cannot
-  pub table_kept : (middle : DocumentViews) (g : Text) (e : Error) → missing_table (tree_of old) path ≡ None
+  pub table_fails : (middle : DocumentViews) (g : Text) (e : Error) → missing_table (tree_of old) path ≡ None
       → (tree_of old p ≡ None → ⊥) → middle.bytes ≡ removed_text p form → IsDocument middle.bytes g
       → ShowsTree middle g → Removed form p (tree_of old) (tree_of middle)
       → IsMemory e ⊎ ((e ≡ EditRefused) × HasFailedRemoval (empty_table_place (tree_of middle) r) middle.bytes)
       → IsEntryRemovalError path name old e
-  table_kept middle g e tables stood bytes again shows removed (inl memory) = inl memory
-  table_kept middle g e tables stood bytes again shows removed (inr why) =
+  table_fails middle g e tables stood bytes again shows removed (inl memory) = inl memory
+  table_fails middle g e tables stood bytes again shows removed (inr why) =
       refused_for e tables stood (
         why.0,
         table_stays middle.bytes g (first_out middle g bytes again shows removed) again

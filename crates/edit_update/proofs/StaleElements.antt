@@ -37,26 +37,26 @@ module _ (t : Tree) (held : Bool) (name : List ℕ) (array : Place) where
       (stale_back t held name array m)) h
 
   -- an element that is removed is listed, and then those before it
-  pub told_goes : (n m : ℕ) (xs new : List (Vec WrittenStep)) (x : Vec WrittenStep) (all : List Place)
+  pub stale_goes : (n m : ℕ) (xs new : List (Vec WrittenStep)) (x : Vec WrittenStep) (all : List Place)
       → n ≡ suc m
       → is_stale_item held name (t (at array (index m))) ≡ true → new ≡ xs ++ x ∷ []
       → place_view x.items ≡ at array (index m)
       → places_view xs ++ stale_back t held name array n ≡ all
       → places_view new ++ stale_back t held name array m ≡ all
-  told_goes n m xs new x all e h pushed is told =
+  stale_goes n m xs new x all e h pushed is before_is =
       let before = stale_back t held name array m in
       ap (λ l. places_view l ++ before) pushed
       ∙ ap (λ l. l ++ before) (map-append (λ (p : Vec WrittenStep). place_view p.items) xs (x ∷ []))
       ∙ append_assoc (places_view xs) (place_view x.items ∷ []) before
       ∙ ap (λ q. places_view xs ++ q ∷ before) is
-      ∙ sym (ap (λ l. places_view xs ++ l) (back_goes n m e h)) ∙ told
+      ∙ sym (ap (λ l. places_view xs ++ l) (back_goes n m e h)) ∙ before_is
 
   -- an element that stays is not listed
-  pub told_stays : (n m : ℕ) (xs : List (Vec WrittenStep)) (all : List Place) → n ≡ suc m
+  pub stale_stays : (n m : ℕ) (xs : List (Vec WrittenStep)) (all : List Place) → n ≡ suc m
       → is_stale_item held name (t (at array (index m))) ≡ false
       → places_view xs ++ stale_back t held name array n ≡ all
       → places_view xs ++ stale_back t held name array m ≡ all
-  told_stays n m xs all e h told = sym (ap (λ l. places_view xs ++ l) (back_stays n m e h)) ∙ told
+  stale_stays n m xs all e h before_is = sym (ap (λ l. places_view xs ++ l) (back_stays n m e h)) ∙ before_is
 
   -- all of an array's
   of_view : (v : View) → is_static_array v ≡ true → elements_of array (Some v)

@@ -160,10 +160,10 @@ module _ (f : FinalValue → Option Change) (entry : Place) (xs : List WrittenEn
       ∙ filter_map-append f (map final_value_view (take i xs)) (map final_value_view (x ∷ drop (suc i) xs))
 
   -- a final value without an edit
-  pub none_asked : (old mid : List ℕ) → f (final_value_view x) ≡ None
+  pub no_edit : (old mid : List ℕ) → f (final_value_view x) ≡ None
       → Changed entry (filter_map f (final_values_view (take i xs))) old mid
       → Changed entry (filter_map f (final_values_view (take (i + 1) xs))) old mid
-  none_asked old mid is h =
+  no_edit old mid is h =
       let same = given ∙ ap (λ (o : Option Change). filter_map f (final_values_view (take i xs)) ++ cons_option o [])
       is
       ∙ append-nil (filter_map f (final_values_view (take i xs))) in

@@ -53,16 +53,16 @@ pub cached-without : (lists : List (Vec Config)) (old new : BTreeMap ℕ Address
 cached-without lists old new j are left = λ k a own has at.
     are k a own (not-removed (is_at (nat_cmp j) k) (get nat_cmp old k) a (sym (left k) ∙ has)) at
 
-kept-at : (lists : List (Vec Config)) (j k : ℕ) (a b : Addresses) (own : Vec Config) (o : Option Addresses)
+cached-at : (lists : List (Vec Config)) (j k : ℕ) (a b : Addresses) (own : Vec Config) (o : Option Addresses)
     (t : Bool) → (t ≡ true → j ≡ k) → AreAddressesFor lists j a
     → (o ≡ Some b → AreAddresses own.items b) → cond t (Some a) o ≡ Some b
     → slice_get lists k ≡ Some own → AreAddresses own.items b
-kept-at lists j k a b own o true same fit before has at =
+cached-at lists j k a b own o true same fit before has at =
     let is : a ≡ b = cc has in
     let here : slice_get lists j ≡ Some own = subst (λ (i : ℕ). slice_get lists i ≡ Some own)
     (sym (same refl)) at in
     subst (AreAddresses own.items) is (fit own here)
-kept-at lists j k a b own o false same fit before has at = before has
+cached-at lists j k a b own o false same fit before has at = before has
 
 -- those for one list are stored
 pub cached-with : (lists : List (Vec Config)) (old new : BTreeMap ℕ Addresses) (j : ℕ) (a : Addresses)
@@ -70,7 +70,7 @@ pub cached-with : (lists : List (Vec Config)) (old new : BTreeMap ℕ Addresses)
     → ((q : ℕ) → get nat_cmp new q ≡ cond (is_at (nat_cmp j) q) (Some a) (get nat_cmp old q))
     → AreCaches lists new
 cached-with lists old new j a are fit next = λ k b own has at.
-    kept-at lists j k a b own (get nat_cmp old k) (is_at (nat_cmp j) k) (same-index j k) fit
+    cached-at lists j k a b own (get nat_cmp old k) (is_at (nat_cmp j) k) (same-index j k) fit
     (λ before. are k b own before at) (sym (next k) ∙ has) at
 
 -- the addresses for the list of an input are those of its configurations

@@ -69,13 +69,13 @@ pub one_resolved : (configs : List Config) (registry : Option (List ℕ)) (given
     → ((named : Option (List ℕ)) → url_at new named
     ≡ (if is_same_registry registry named then Some given else url_at mid named))
     → HasAddress configs registry given → AreAddresses configs new
-one_resolved configs registry given old mid new are first defines default named next same kept has = record {
+one_resolved configs registry given old mid new are first defines default named next same same_leads has = record {
   own = ap (λ (b : Bor (List Config)). b.now) (next ∙ first) ∙ are.own;
   defines = subst (λ (d : Option Definitions). IfSome d (Defines configs)) (sym same) defines;
   has = λ name address h. one_more configs registry name given address (url_at mid name)
       (is_same_registry registry name) (same_name registry name) has
       (λ before. are.has name address (sym (same_urls old mid default named name) ∙ before))
-      (sym (kept name) ∙ h);
+      (sym (same_leads name) ∙ h);
 }
 
 -- addresses that are resolved from a list are resolved from the list that they have

@@ -10,8 +10,8 @@ use Rattle.edit_sources.specs.Index.{Outcomes}
 use Rattle.edit_sources.specs.declared.config.Config.{Config}
 use Rattle.edit_upgrade.specs.Caches.{CacheView, LeavesCache, StopsDocuments, StopsInputs, StopsManifest}
 use Rattle.edit_upgrade.specs.Causes.{FirstInput, InputPasses, HasBadEntry}
-use Rattle.edit_upgrade.specs.Looked.{Stays}
-use Rattle.edit_upgrade.specs.Looks.{CachedAnswers}
+use Rattle.edit_upgrade.specs.LookupSteps.{Stays}
+use Rattle.edit_upgrade.specs.Lookups.{CachedAnswers}
 use Rattle.edit_report.specs.declared.row.Row.{Row}
 use Rattle.edit_upgrade.specs.Drafts.{ArePlanned}
 use Rattle.edit_upgrade.specs.Lines.{line_of}
@@ -40,7 +40,7 @@ bad-from Needed own bytes was now next e left h = record {
     rest = h.stops.rest;
     split = h.stops.split;
     passed = h.stops.passed;
-    stops = stops-from own was.gives now.gives was.kept now.kept was.faults now.faults next.faults
+    stops = stops-from own was.gives now.gives was.cached now.cached was.faults now.faults next.faults
         h.stops.entry e left.same left.adds.stays left.later h.stops.stops;
   };
 }
@@ -49,22 +49,22 @@ bad-from Needed own bytes was now next e left h = record {
 module _ {o : Options} {inputs : List Input} {configs : List (Vec Config)} {k : ℕ} {x : Input}
     {own : Vec Config} {here : List Config} {ls : List Line} {os : List Output} {ts : List WarningView}
     (was now next : CacheView) (e : Error) (at : IsInputAt inputs configs k x own here)
-    (p : ArePlanned o now.kept (take k inputs) (take k configs) ls os ts)
-    (left : LeavesCache (IsNeeded inputs configs) was now) (stays : Stays now.kept next.kept) where
+    (p : ArePlanned o now.cached (take k inputs) (take k configs) ls os ts)
+    (left : LeavesCache (IsNeeded inputs configs) was now) (stays : Stays now.cached next.cached) where
   -- the inputs before it are passed
   passed-front : (j : ℕ) → j < k → IfSome (slice_get inputs j)
-      (λ y. IfSome (slice_get configs j) (λ d. InputPasses d.items next.kept y))
+      (λ y. IfSome (slice_get configs j) (λ d. InputPasses d.items next.cached y))
   passed-front j low = each-some (slice_get inputs j) (slice_get configs j)
-      (λ y d. InputPasses d.items next.kept y) (λ y d f g.
+      (λ y d. InputPasses d.items next.cached y) (λ y d f g.
       let q = p.each j y d (get-taken inputs k j y low f) (get-taken configs k j d low g) in
       record {
         form = q.form;
         manifest = q.manifest;
-        passed = passed-stays d.items now.kept next.kept (row_entries (view_at q.form)) stays q.passed;
+        passed = passed-stays d.items now.cached next.cached (row_entries (view_at q.form)) stays q.passed;
       })
 
   stops-here : (Stops : List Config → List ℕ → Type 0) → Stops own.items x.bytes.items
-      → FirstInput inputs configs next.kept Stops
+      → FirstInput inputs configs next.cached Stops
   stops-here Stops h = record {
     i = k;
     input = x;
@@ -95,9 +95,9 @@ module _ {o : Options} {inputs : List Input} {configs : List (Vec Config)} {k : 
       (inr (entry-here bad))
 
 -- memory ran out after all inputs were planned
-pub finish-refused : {o : Options} {kept : CachedAnswers} {ls : List Line} {os : List Output} {ts : List WarningView}
+pub finish-refused : {o : Options} {cached : CachedAnswers} {ls : List Line} {os : List Output} {ts : List WarningView}
     (inputs : List Input) (configs : List (Vec Config)) (was next : CacheView) (e : Error)
-    → ArePlanned o kept inputs configs ls os ts → length configs ≡ length inputs → (ls ≡ [] → ⊥)
+    → ArePlanned o cached inputs configs ls os ts → length configs ≡ length inputs → (ls ≡ [] → ⊥)
     → All (λ (x : Input). IsUtf8 x.bytes.items) inputs → IsMemory e
     → StopsInputs inputs configs was next e
 finish-refused [] configs was next e p long some utf8 memory = absurd (some p.rows_in_order)

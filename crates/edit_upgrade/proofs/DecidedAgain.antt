@@ -15,7 +15,7 @@ use Rattle.edit_version.proofs.Outcomes.{form-of, text-outcome, valid-version}
 use Rattle.edit_upgrade.specs.Decision.{Case, decision, first_row, has_pin_read, is_pin, is_too_low, newer, row_change, row_of, row_text, text_or, unless, some_if}
 use Rattle.edit_upgrade.specs.Records.{RowEntry}
 use Rattle.edit_upgrade.specs.Rows.{case_for}
-use Rattle.edit_upgrade.specs.Words.{is_excluded, requirement_for}
+use Rattle.edit_upgrade.specs.EntrySelection.{is_excluded, requirement_for}
 use Rattle.edit_upgrade.specs.declared.decision.options.Options.{Options}
 use Rattle.edit_upgrade.proofs.LowAgain.{low-again}
 use Rattle.edit_upgrade.proofs.Narrowing.{latest-lands}
@@ -109,9 +109,9 @@ latest-row : (o : Options) (r m : Bool) (xs : List Parts) (old t : List ℕ)
     → row_change t (row_of o (case_of false r m t near far)) ≡ None
 latest-row o r m xs old t near0 far0 near far all islatest h isnear isfar =
     let f = far-some old t far0 near0 h in
-    let kept = subst (λ (x : Option Parts). IsLatest old xs x) (newer-latest far0 near0 f.0 f.1) islatest in
-    let l = latest-lands old f.0 t (greatest-has IsValid (is_offered old) xs f.0 all kept) kept.kept f.2 in
-    let s = latest-settles xs old t f.0 far near l kept isfar isnear in
+    let qualifies = subst (λ (x : Option Parts). IsLatest old xs x) (newer-latest far0 near0 f.0 f.1) islatest in
+    let l = latest-lands old f.0 t (greatest-has IsValid (is_offered old) xs f.0 all qualifies) qualifies.qualifies f.2 in
+    let s = latest-settles xs old t f.0 far near l qualifies isfar isnear in
     stays o false r m t near far
     (quiet-for (jump o r t) (is_too_low m t (newer far near)) (far_text t far near) s.0)
     (ap (λ (x : Option (List ℕ)). some_if o.compatible x) s.1 ∙ some_if-none o.compatible)

@@ -19,8 +19,8 @@ use Rattle.edit_upgrade.specs.Drafts.{ArePlanned, IsPathAmong, IsPlanned, lines_
 use Rattle.edit_metadata.specs.Inputs.{path_of}
 use Rattle.edit_upgrade.specs.Inputs.{below, output_path}
 use Rattle.edit_upgrade.specs.Lists.{WarningView}
-use Rattle.edit_upgrade.specs.Looked.{Stays}
-use Rattle.edit_upgrade.specs.Looks.{CachedAnswers}
+use Rattle.edit_upgrade.specs.LookupSteps.{Stays}
+use Rattle.edit_upgrade.specs.Lookups.{CachedAnswers}
 use Rattle.edit_upgrade.specs.Records.{row_entries}
 use Rattle.edit_upgrade.specs.Rows.{Line}
 use Rattle.edit_upgrade.specs.declared.decision.options.Options.{Options}
@@ -131,16 +131,16 @@ has_some os path = not (length (outputs_on path os) == 0)
 -- the rows, outputs and warnings of inputs with one more
 module _ (o : Options) (now next : CachedAnswers) (xs : List Input) (cs : List (Vec Config)) (ls lines : List Line)
     (os outputs : List Output)
-    (ts told : List WarningView) (x : Input) (own : Vec Config) (stays : Stays now next)
+    (ts warnings : List WarningView) (x : Input) (own : Vec Config) (stays : Stays now next)
     (p : ArePlanned o now xs cs ls os ts)
-    (one : IsPlanned (length xs) o x own.items next lines outputs told) (long : length cs ≡ length xs)
+    (one : IsPlanned (length xs) o x own.items next lines outputs warnings) (long : length cs ≡ length xs)
     (new : (j : ℕ) (y : Input) → slice_get xs j ≡ Some y → path_of y ≢ path_of x) where
   rows-own : All (λ (l : Line). l.input ≡ length xs) lines
   rows-own = decided-inputs (length xs) o (option_map numbers_of x.rust_version) own.items next
       (row_entries (view_at one.form)) lines one.decided
 
-  told-own : All (λ (t : WarningView). t.input ≡ length xs) told
-  told-own = warned-inputs o (length xs) x.bytes.items told one.warned
+  warnings-own : All (λ (t : WarningView). t.input ≡ length xs) warnings
+  warnings-own = warned-inputs o (length xs) x.bytes.items warnings one.warned
 
   outputs-own : All (λ (q : Output). output_path q ≡ path_of x) outputs
   outputs-own = written-paths (path_of x) x.bytes.items lines outputs one.writes
@@ -154,14 +154,14 @@ module _ (o : Options) (now next : CachedAnswers) (xs : List Input) (cs : List (
       (lows (λ (l : Line). l.input) (length xs) ls p.rows_below)
       (owns (λ (l : Line). l.input) (length xs) lines rows-own)
 
-  told-front : (i : ℕ) → i < length xs → warnings_among i (ts ++ told) ≡ warnings_among i ts
-  told-front i low = filter-front (λ (t : WarningView). t.input == i) ts told
-      (others (λ (t : WarningView). t.input) (length xs) i told low told-own)
+  warnings-front : (i : ℕ) → i < length xs → warnings_among i (ts ++ warnings) ≡ warnings_among i ts
+  warnings-front i low = filter-front (λ (t : WarningView). t.input == i) ts warnings
+      (others (λ (t : WarningView). t.input) (length xs) i warnings low warnings-own)
 
-  told-last : warnings_among (length xs) (ts ++ told) ≡ told
-  told-last = filter-last (λ (t : WarningView). t.input == length xs) ts told
-      (lows (λ (t : WarningView). t.input) (length xs) ts p.told_below)
-      (owns (λ (t : WarningView). t.input) (length xs) told told-own)
+  warnings-last : warnings_among (length xs) (ts ++ warnings) ≡ warnings
+  warnings-last = filter-last (λ (t : WarningView). t.input == length xs) ts warnings
+      (lows (λ (t : WarningView). t.input) (length xs) ts p.warnings_below)
+      (owns (λ (t : WarningView). t.input) (length xs) warnings warnings-own)
 
   outputs-front : (path : List ℕ) → path ≢ path_of x → outputs_on path (os ++ outputs) ≡ outputs_on path os
   outputs-front path differs =
@@ -176,23 +176,23 @@ module _ (o : Options) (now next : CachedAnswers) (xs : List Input) (cs : List (
   each-more : (i : ℕ) (y : Input) (c : Vec Config) → slice_get (xs ++ x ∷ []) i ≡ Some y
       → slice_get (cs ++ own ∷ []) i ≡ Some c
       → IsPlanned i o y c.items next (lines_on i (ls ++ lines)) (outputs_on (path_of y) (os ++ outputs))
-      (warnings_among i (ts ++ told))
+      (warnings_among i (ts ++ warnings))
   each-more i y c e f = by (get-cases xs x i y e) (get-cases cs own i c f)
     where
       by : (slice_get xs i ≡ Some y) ⊎ ((i ≡ length xs) × (x ≡ y)) → (slice_get cs i ≡ Some c)
           ⊎ ((i ≡ length cs) × (own ≡ c))
           → IsPlanned i o y c.items next (lines_on i (ls ++ lines))
-          (outputs_on (path_of y) (os ++ outputs)) (warnings_among i (ts ++ told))
+          (outputs_on (path_of y) (os ++ outputs)) (warnings_among i (ts ++ warnings))
       by (inl a) (inl b) =
           let low : i < length xs = slice_get_within xs i y a in
           let before = planned-stays i o y c.items now next (lines_on i ls) (outputs_on (path_of y) os)
           (warnings_among i ts) stays (p.each i y c a b) in
           subst (λ (l : List Line). IsPlanned i o y c.items next l (outputs_on (path_of y) (os ++ outputs))
-          (warnings_among i (ts ++ told))) (sym (lines-front i low))
+          (warnings_among i (ts ++ warnings))) (sym (lines-front i low))
           (subst (λ (q : List Output). IsPlanned i o y c.items next (lines_on i ls) q
-          (warnings_among i (ts ++ told))) (sym (outputs-front (path_of y) (new i y a)))
+          (warnings_among i (ts ++ warnings))) (sym (outputs-front (path_of y) (new i y a)))
           (subst (λ (t : List WarningView). IsPlanned i o y c.items next (lines_on i ls)
-          (outputs_on (path_of y) os) t) (sym (told-front i low)) before))
+          (outputs_on (path_of y) os) t) (sym (warnings-front i low)) before))
       by (inl a) (inr b) =
           let low : i < length xs = slice_get_within xs i y a in
           absurd (omega (arith, low, b.0, long))
@@ -201,27 +201,27 @@ module _ (o : Options) (now next : CachedAnswers) (xs : List Input) (cs : List (
           absurd (omega (arith, low, a.0, long))
       by (inr a) (inr b) =
           subst (λ (k : ℕ). IsPlanned k o y c.items next (lines_on k (ls ++ lines))
-          (outputs_on (path_of y) (os ++ outputs)) (warnings_among k (ts ++ told))) (sym a.0)
+          (outputs_on (path_of y) (os ++ outputs)) (warnings_among k (ts ++ warnings))) (sym a.0)
           (subst (λ (z : Input). IsPlanned (length xs) o z c.items next
           (lines_on (length xs) (ls ++ lines)) (outputs_on (path_of z) (os ++ outputs))
-          (warnings_among (length xs) (ts ++ told))) a.1
+          (warnings_among (length xs) (ts ++ warnings))) a.1
           (subst (λ (d : Vec Config). IsPlanned (length xs) o x d.items next
           (lines_on (length xs) (ls ++ lines)) (outputs_on (path_of x) (os ++ outputs))
-          (warnings_among (length xs) (ts ++ told))) b.1
+          (warnings_among (length xs) (ts ++ warnings))) b.1
           (subst (λ (l : List Line). IsPlanned (length xs) o x own.items next l
-          (outputs_on (path_of x) (os ++ outputs)) (warnings_among (length xs) (ts ++ told))) (sym lines-last)
+          (outputs_on (path_of x) (os ++ outputs)) (warnings_among (length xs) (ts ++ warnings))) (sym lines-last)
           (subst (λ (q : List Output). IsPlanned (length xs) o x own.items next lines q
-          (warnings_among (length xs) (ts ++ told))) (sym outputs-last)
+          (warnings_among (length xs) (ts ++ warnings))) (sym outputs-last)
           (subst (λ (t : List WarningView). IsPlanned (length xs) o x own.items next lines outputs t)
-          (sym told-last) one)))))
+          (sym warnings-last) one)))))
 
   rows-more : ls ++ lines ≡ flat_map (λ i. lines_on i (ls ++ lines)) (below (length (xs ++ x ∷ [])))
   rows-more = in-turn-more (λ (l : Line). l.input) (length xs) (length (xs ++ x ∷ [])) ls lines
       (length-more xs x) p.rows_below rows-own p.rows_in_order
 
-  told-more : ts ++ told ≡ flat_map (λ i. warnings_among i (ts ++ told)) (below (length (xs ++ x ∷ [])))
-  told-more = in-turn-more (λ (t : WarningView). t.input) (length xs) (length (xs ++ x ∷ [])) ts told
-      (length-more xs x) p.told_below told-own p.told_in_order
+  warnings-more : ts ++ warnings ≡ flat_map (λ i. warnings_among i (ts ++ warnings)) (below (length (xs ++ x ∷ [])))
+  warnings-more = in-turn-more (λ (t : WarningView). t.input) (length xs) (length (xs ++ x ∷ [])) ts warnings
+      (length-more xs x) p.warnings_below warnings-own p.warnings_in_order
 
   outputs-more : map output_path (os ++ outputs) ≡ filter (has_some (os ++ outputs))
       (map path_of (xs ++ x ∷ []))
@@ -241,16 +241,16 @@ module _ (o : Options) (now next : CachedAnswers) (xs : List Input) (cs : List (
       ∙ ap (filter some) (sym (map-append path_of xs (x ∷ [])))
 
   pub planned-more : ArePlanned o next (xs ++ x ∷ []) (cs ++ own ∷ []) (ls ++ lines) (os ++ outputs)
-      (ts ++ told)
+      (ts ++ warnings)
   planned-more = record {
     each = each-more;
     rows_in_order = rows-more;
     outputs_in_order = outputs-more;
-    told_in_order = told-more;
+    warnings_in_order = warnings-more;
     rows_below = more-below (λ (l : Line). l.input) (length xs) (length (xs ++ x ∷ [])) ls lines
         (length-more xs x) p.rows_below rows-own;
-    told_below = more-below (λ (t : WarningView). t.input) (length xs) (length (xs ++ x ∷ [])) ts told
-        (length-more xs x) p.told_below told-own;
+    warnings_below = more-below (λ (t : WarningView). t.input) (length xs) (length (xs ++ x ∷ [])) ts warnings
+        (length-more xs x) p.warnings_below warnings-own;
     paths_among = All-append (λ q. IsPathAmong (xs ++ x ∷ []) (output_path q)) os outputs
         (All-weaker (λ q. IsPathAmong xs (output_path q)) (λ q. IsPathAmong (xs ++ x ∷ []) (output_path q))
         (λ q a. among-more xs x (output_path q) a) os p.paths_among)

@@ -15,8 +15,8 @@ use Rattle.edit_metadata.specs.Inputs.{path_of}
 use Rattle.edit_upgrade.specs.Inputs.{EachInput, Setting, below, outputs_at, rows_of, setting_of}
 use Rattle.edit_upgrade.specs.Lines.{line_of}
 use Rattle.edit_upgrade.specs.Lists.{HasRowLists, warning_view}
-use Rattle.edit_upgrade.specs.LookOrder.{AreInOrder}
-use Rattle.edit_upgrade.specs.Looks.{AreLookups}
+use Rattle.edit_upgrade.specs.LookupOrder.{AreInOrder}
+use Rattle.edit_upgrade.specs.Lookups.{AreLookups}
 use Rattle.edit_upgrade.specs.Missing.{ListsMissing}
 use Rattle.edit_upgrade.specs.Plans.{HasLookups, IsPlan, AreLookupsInOrder}
 use Rattle.edit_upgrade.specs.Records.{row_entries}
@@ -30,38 +30,38 @@ use Rattle.edit_upgrade.specs.declared.upgrade.UpgradePlan.{UpgradePlan}
 use Rattle.edit_upgrade.proofs.EndLemmas.{all-below, all-flat, each-some, get-some}
 use Rattle.edit_upgrade.proofs.HeadlineRows.{rows-floor, rows-latest, rows-narrow, rows-reach}
 use Rattle.edit_upgrade.proofs.PlannedAgain.{need-same, pending_defined}
-use Rattle.edit_upgrade.proofs.WalkLemmas.{rows-told}
+use Rattle.edit_upgrade.proofs.WalkLemmas.{rows-from}
 
 -- a plan that has all that was planned of the inputs, and the looks that they need in their order, from a
 -- cache to another
 pub record IsFinished (o : Options) (inputs : List Input) (configs : List (Vec Config)) (old new : CacheView)
     (plan : UpgradePlan) : Type 0 where
-  pub planned : ArePlanned o new.kept inputs configs (map line_of plan.rows.items) plan.outputs.items
+  pub planned : ArePlanned o new.cached inputs configs (map line_of plan.rows.items) plan.outputs.items
       (map warning_view plan.warnings.items)
-  pub looks : HasLookups inputs configs old new plan
+  pub lookups : HasLookups inputs configs old new plan
   pub in_order : AreLookupsInOrder inputs configs plan
 
 -- the plan that a draft has
 pub finish_plan-draft : (o : Options) (inputs : List Input) (configs : List (Vec Config)) (old new : CacheView)
-    (d : Draft) (plan : UpgradePlan) → IsDraft o inputs configs old.gives old.kept new.kept d
+    (d : Draft) (plan : UpgradePlan) → IsDraft o inputs configs old.gives old.cached new.cached d
     → (plan.rows ≡ d.rows) × (plan.looks ≡ d.books.looks)
     → (plan.outputs ≡ d.outputs) × (plan.warnings ≡ d.warnings)
     → IsFinished o inputs configs old new plan
 finish_plan-draft o inputs configs old new d plan h a b = record {
-  planned = subst (λ (rows : Vec Row). ArePlanned o new.kept inputs configs (map line_of rows.items)
+  planned = subst (λ (rows : Vec Row). ArePlanned o new.cached inputs configs (map line_of rows.items)
       plan.outputs.items (map warning_view plan.warnings.items)) (sym a.0)
-      (subst (λ (outputs : Vec Output). ArePlanned o new.kept inputs configs (map line_of d.rows.items)
+      (subst (λ (outputs : Vec Output). ArePlanned o new.cached inputs configs (map line_of d.rows.items)
       outputs.items (map warning_view plan.warnings.items)) (sym b.0)
-      (subst (λ (warnings : Vec Warning). ArePlanned o new.kept inputs configs (map line_of d.rows.items)
+      (subst (λ (warnings : Vec Warning). ArePlanned o new.cached inputs configs (map line_of d.rows.items)
       d.outputs.items (map warning_view warnings.items)) (sym b.1) h.planned));
-  looks = subst (λ (looks : Vec Look). AreLookups (IsNeeded inputs configs) old.gives old.kept new.kept
-      looks.items) (sym a.1) h.so_far.looked;
-  in_order = subst (λ (looks : Vec Look). AreInOrder inputs configs looks.items) (sym a.1) h.ordered.looked;
+  lookups = subst (λ (lookups : Vec Look). AreLookups (IsNeeded inputs configs) old.gives old.cached new.cached
+      lookups.items) (sym a.1) h.so_far.lookups;
+  in_order = subst (λ (lookups : Vec Look). AreInOrder inputs configs lookups.items) (sym a.1) h.ordered.lookups;
 }
 
 module _ (o : Options) (inputs : List Input) (configs : List (Vec Config)) (old new : CacheView)
     (plan : UpgradePlan) (h : IsFinished o inputs configs old new plan) where
-  p : ArePlanned o new.kept inputs configs (map line_of plan.rows.items) plan.outputs.items
+  p : ArePlanned o new.cached inputs configs (map line_of plan.rows.items) plan.outputs.items
       (map warning_view plan.warnings.items)
   p = h.planned
 
@@ -73,8 +73,8 @@ module _ (o : Options) (inputs : List Input) (configs : List (Vec Config)) (old 
       record {
         form = q.form;
         manifest = q.manifest;
-        decided = rows-told (IsNeeded inputs configs) i o (option_map numbers_of x.rust_version) own.items
-            old.gives old.kept new.kept plan.looks.items (row_entries (view_at q.form))
+        decided = rows-from (IsNeeded inputs configs) i o (option_map numbers_of x.rust_version) own.items
+            old.gives old.cached new.cached plan.looks.items (row_entries (view_at q.form))
             (lines_on i (map line_of plan.rows.items))
             (λ a n need. record {
               i = i;
@@ -85,7 +85,7 @@ module _ (o : Options) (inputs : List Input) (configs : List (Vec Config)) (old 
               needed = record
                   { form = q.form; manifest = q.manifest; needed = need };
             })
-            h.looks q.decided;
+            h.lookups q.decided;
       }
 
   each-of : (P : Setting → Input → UpgradePlan → Type 0)
@@ -137,7 +137,7 @@ module _ (o : Options) (inputs : List Input) (configs : List (Vec Config)) (old 
     outputs = all-outputs;
     outputs_in_order = p.outputs_in_order;
     warnings = all-warnings;
-    warnings_in_order = p.told_in_order;
+    warnings_in_order = p.warnings_in_order;
     narrowing = all-lines Narrows long (λ s bytes lines same k. rows-narrow s bytes lines k);
     reach = all-lines Reaches long (λ s bytes lines same k. rows-reach s bytes lines k);
     latest = all-lines LatestIsNotLess long (λ s bytes lines same k. rows-latest s bytes lines k);
@@ -146,7 +146,7 @@ module _ (o : Options) (inputs : List Input) (configs : List (Vec Config)) (old 
     fixed_point = all-pending_defined;
     needs = all-needs;
     missing = missing;
-    looks = h.looks;
-    looks_in_order = h.in_order;
+    lookups = h.lookups;
+    lookups_in_order = h.in_order;
     lists = lists;
   }

@@ -63,9 +63,9 @@ insert-seen (e ∷ es) name pin =
     (ap (λ l. pin_entry_view e ∷ l) (insert-seen es name pin))
 
 -- a word more
-pub word-more : (words : List (List ℕ)) (word : List ℕ)
-    → pins_of (words ++ word ∷ []) ≡ with_package_arg (pins_of words) word
-word-more words word = fold-append with_package_arg [] words (word ∷ [])
+pub arg-more : (args : List (List ℕ)) (arg : List ℕ)
+    → pins_of (args ++ arg ∷ []) ≡ with_package_arg (pins_of args) arg
+arg-more args arg = fold-append with_package_arg [] args (arg ∷ [])
 
 -- a comparator more
 pub precise-more : (cs : List Held) (c : Held) (named : Option Parts) → named ≡ named_version c

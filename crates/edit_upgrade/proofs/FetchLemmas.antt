@@ -8,8 +8,8 @@ use Rattle.edit_sources.specs.Index.{Outcomes, answer_of}
 use Rattle.edit_sources.specs.declared.index.IndexKrate.{IndexKrate}
 use Rattle.url.specs.Parts as url
 use Rattle.url.specs.Parts.{serialize}
-use Rattle.edit_upgrade.specs.Looked.{IsAt}
-use Rattle.edit_upgrade.specs.Looks.{AddsNeeded, Answer, IsIndexAnswer}
+use Rattle.edit_upgrade.specs.LookupSteps.{IsAt}
+use Rattle.edit_upgrade.specs.Lookups.{AddsNeeded, Answer, IsIndexAnswer}
 use Rattle.edit_upgrade.proofs.Bytes.{apart, both-true, same-eq}
 
 -- the answers that a cache keeps, as it has them

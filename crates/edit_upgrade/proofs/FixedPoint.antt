@@ -18,16 +18,16 @@ use Rattle.edit_version.proofs.Outcomes.{valid-version}
 use Rattle.edit_sources.proofs.AddressLemmas.{one_url}
 use Rattle.url.specs.Parts as url
 use Rattle.url.specs.Parts.{serialize}
-use Rattle.edit_upgrade.specs.Decision.{Case, Outcome, compatible_text, decision, first_row, given, is_too_low, kept, latest_text, left_out, may_jump, newer, row_change, row_of, row_text, text_or, to_compatible, to_latest, unless_old, unread, some_if}
+use Rattle.edit_upgrade.specs.Decision.{Case, Outcome, compatible_text, decision, first_row, given, is_too_low, up_to_date, latest_text, left_out, may_jump, newer, row_change, row_of, row_text, text_or, to_compatible, to_latest, unless_old, unread, some_if}
 use Rattle.edit_upgrade.specs.Headline.{HasNoChange}
 use Rattle.edit_upgrade.specs.Inputs.{Setting}
-use Rattle.edit_upgrade.specs.Looks.{looked_up_versions}
+use Rattle.edit_upgrade.specs.Lookups.{lookup_versions}
 use Rattle.edit_upgrade.specs.Records.{RowEntry, at_registry}
 use Rattle.edit_sources.specs.Configured.{HasAddress}
 use Rattle.edit_sources.specs.declared.config.Config.{Config}
-use Rattle.edit_upgrade.specs.Rows.{AreVersionsFor, IsDecided, IsRowOver, Line, Needs, case_for, elsewhere, is_elsewhere, told_there, write_at, write_on}
+use Rattle.edit_upgrade.specs.Rows.{AreVersionsFor, IsDecided, IsRowOver, Line, Needs, case_for, elsewhere, is_elsewhere, at_address, write_at, write_on}
 use Rattle.edit_upgrade.specs.Upgraded.{IsRow, basis_of}
-use Rattle.edit_upgrade.specs.Words.{is_excluded, requirement_for}
+use Rattle.edit_upgrade.specs.EntrySelection.{is_excluded, requirement_for}
 use Rattle.edit_report.specs.declared.row.Change.{Change}
 use Rattle.edit_upgrade.specs.declared.decision.options.Options.{Options}
 use Rattle.edit_upgrade.proofs.DecidedAgain.{again, case-plain, case_of}
@@ -122,7 +122,7 @@ old-stays old (given text) h = same-stays old text _ h
 old-stays old unread h = refl
 old-stays old (to_latest text) h = same-stays old text _ h
 old-stays old (to_compatible text) h = same-stays old text _ h
-old-stays old kept h = refl
+old-stays old up_to_date h = refl
 
 -- so the row tells the old requirement
 line-stays : (i : ℕ) (o : Options) (xs : List Parts) (e : RowEntry) (old : List ℕ) (line : Line)
@@ -162,11 +162,11 @@ new-by i o xs e old line None plain all g h d q = (
 )
 new-by i o xs e old line (Some kind) plain all g h d q =
     let new = (decision o (case_for o e old d.near d.far)).new in
-    let told : line.new ≡ Some new = ap (λ (l : Line). l.new) d.is in (
+    let new_is : line.new ≡ Some new = ap (λ (l : Line). l.new) d.is in (
       new,
-      told,
+      new_is,
       ap (λ (w : Option (Place × List ℕ)). record e { old = old_after w e.old })
-          (some-written e old line kind new g q told)
+          (some-written e old line kind new g q new_is)
           ∙ ap (λ (x : List ℕ). record e { old = Some x })
           (decided-whole o xs e old d.near d.far plain all h d.compatible d.latest),
     )
@@ -221,12 +221,12 @@ not-both e named p q = cc (sym (ap is_elsewhere p) ∙ q)
 -- the versions that may be taken for an entry are the same
 same-versions : (s : Setting) (e : RowEntry) (xs ys : List Parts) → AreVersionsFor (basis_of s) e xs
     → AreVersionsFor (basis_of s) e ys → xs ≡ ys
-same-versions s e xs ys (told_there a needs are) (told_there b need is) =
-    are ∙ ap (λ (u : url.Parts). looked_up_versions s.rust s.looks (serialize u) e.name)
+same-versions s e xs ys (at_address a needs are) (at_address b need is) =
+    are ∙ ap (λ (u : url.Parts). lookup_versions s.rust s.lookups (serialize u) e.name)
     (one-address s.configs e a b e.name e.name needs need) ∙ sym is
-same-versions s e xs ys (told_there a needs are) (elsewhere other none) =
+same-versions s e xs ys (at_address a needs are) (elsewhere other none) =
     absurd (not-both e needs.named needs.source other)
-same-versions s e xs ys (elsewhere other none) (told_there b need is) =
+same-versions s e xs ys (elsewhere other none) (at_address b need is) =
     absurd (not-both e need.named need.source other)
 same-versions s e xs ys (elsewhere other none) (elsewhere more nothing) = none ∙ sym nothing
 

@@ -215,13 +215,13 @@ some-floor (c ∷ cs) h = elim (cases_Bool (is_end c.0)) [
   | inl end ↦
       let more : list_any (λ (d : Held). not (is_end d.0)) cs ≡ true = rw end at h in
       let rest = some-floor cs more in
-      (rest.0, kept rest.0 (rw end refl) rest.1)
+      (rest.0, floor_of_rest rest.0 (rw end refl) rest.1)
   | inr begins ↦ elim (cases_Bool (list_any (λ (d : Held). not (is_end d.0)) cs)) [
     | inr none ↦ (comparator_version c, first begins (ends-not_after (comparator_version c) cs none))
     | inl some ↦
         let rest = some-floor cs some in
         elim (cases_Bool (begins_after rest.0 c)) [
-          | inr below ↦ (rest.0, kept rest.0 below rest.1)
+          | inr below ↦ (rest.0, floor_of_rest rest.0 below rest.1)
           | inl above ↦
               let less : is_lt (precedence rest.0 (comparator_version c)) ≡ true = rw begins at above in (
                 comparator_version c,
@@ -232,8 +232,8 @@ some-floor (c ∷ cs) h = elim (cases_Bool (is_end c.0)) [
   ]
 ]
   where
-    kept : (g : Parts) → begins_after g c ≡ false → IsFloor cs g → IsFloor (c ∷ cs) g
-    kept g h f = record {
+    floor_of_rest : (g : Parts) → begins_after g c ≡ false → IsFloor cs g → IsFloor (c ∷ cs) g
+    floor_of_rest g h f = record {
       comparator = f.comparator;
       among = Contains-append_right (c ∷ []) cs f.comparator f.among;
       begins = f.begins;

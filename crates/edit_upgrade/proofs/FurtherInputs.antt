@@ -18,8 +18,8 @@ use Rattle.edit_metadata.specs.Inputs.{HaveOwnPaths, path_of}
 use Rattle.edit_upgrade.specs.Inputs.{output_path}
 use Rattle.edit_upgrade.specs.Lines.{line_of}
 use Rattle.edit_upgrade.specs.Lists.{WarningView, warning_view}
-use Rattle.edit_upgrade.specs.Looked.{AreAllCached, Stays}
-use Rattle.edit_upgrade.specs.Looks.{CachedAnswers}
+use Rattle.edit_upgrade.specs.LookupSteps.{AreAllCached, Stays}
+use Rattle.edit_upgrade.specs.Lookups.{CachedAnswers}
 use Rattle.edit_upgrade.specs.PairSets.{holds_pair}
 use Rattle.edit_upgrade.specs.Records.{row_entries}
 use Rattle.edit_upgrade.specs.Rows.{Line}
@@ -29,7 +29,7 @@ use Rattle.edit_upgrade.specs.declared.decision.options.Options.{Options}
 use Rattle.edit_upgrade.specs.declared.upgrade.Warning.{Warning}
 use Rattle.edit_upgrade.proofs.DraftLemmas.{planned-more}
 use Rattle.edit_upgrade.proofs.EndLemmas.{get-at, get-cases, get-front, get-last, get-of-taken}
-use Rattle.edit_upgrade.proofs.LookOrderLemmas.{order-more, order-start}
+use Rattle.edit_upgrade.proofs.LookupOrderLemmas.{order-more, order-start}
 use Rattle.edit_upgrade.proofs.LookUpLemmas.{leaves-more, so-far-idle, so-far-start}
 use Rattle.edit_upgrade.proofs.PlannedLemmas.{of-manifest}
 use Rattle.edit_upgrade.proofs.StepLemmas.{Also, steps-so-far}
@@ -40,23 +40,23 @@ use Rattle.edit_upgrade.proofs.Steps.{taken-more}
 nothing-needed : (a n : List ℕ) → IsNeeded [] [] a n → ⊥
 nothing-needed a n h = cc h.at
 
-planned-start : (o : Options) (kept : CachedAnswers) (rows : List Row) (outputs : List Output)
+planned-start : (o : Options) (cached : CachedAnswers) (rows : List Row) (outputs : List Output)
     (warnings : List Warning) → rows ≡ [] → outputs ≡ [] → warnings ≡ []
-    → ArePlanned o kept [] [] (map line_of rows) outputs (map warning_view warnings)
-planned-start o kept rows outputs warnings a b c =
-    let none : ArePlanned o kept [] [] [] [] [] = record {
+    → ArePlanned o cached [] [] (map line_of rows) outputs (map warning_view warnings)
+planned-start o cached rows outputs warnings a b c =
+    let none : ArePlanned o cached [] [] [] [] [] = record {
       each = λ i x own e f. absurd (no x e);
       rows_in_order = refl;
       outputs_in_order = refl;
-      told_in_order = refl;
+      warnings_in_order = refl;
       rows_below = All-nil (λ (l : Line). l.input < 0);
-      told_below = All-nil (λ (t : WarningView). t.input < 0);
+      warnings_below = All-nil (λ (t : WarningView). t.input < 0);
       paths_among = All-nil (λ (q : Output). IsPathAmong [] (output_path q));
     } in
-    subst (λ (r : List Row). ArePlanned o kept [] [] (map line_of r) outputs (map warning_view warnings))
+    subst (λ (r : List Row). ArePlanned o cached [] [] (map line_of r) outputs (map warning_view warnings))
     (sym a)
-    (subst (λ (q : List Output). ArePlanned o kept [] [] [] q (map warning_view warnings)) (sym b)
-    (subst (λ (w : List Warning). ArePlanned o kept [] [] [] [] (map warning_view w)) (sym c) none))
+    (subst (λ (q : List Output). ArePlanned o cached [] [] [] q (map warning_view warnings)) (sym b)
+    (subst (λ (w : List Warning). ArePlanned o cached [] [] [] [] (map warning_view w)) (sym c) none))
   where
     no : (x : Input) → slice_get [] 0 ≡ Some x → ⊥
     no x h = cc h
@@ -66,11 +66,11 @@ pub draft-start : (o : Options) (gives : Outcomes) (old : CachedAnswers) (d : Dr
     → ((a n : List ℕ) → holds_pair d.books.pairs a n ≡ false) → d.outputs.items ≡ [] → d.rows.items ≡ []
     → d.warnings.items ≡ []
     → IsDraft o [] [] gives old old d
-draft-start o gives old d looks pairs outputs rows warnings = record {
-  kept = λ a n h. cc (sym (pairs a n) ∙ h);
-  so_far = so-far-start (IsNeeded [] []) gives old d.books.looks.items (holds_pair d.books.pairs) looks
+draft-start o gives old d lookups pairs outputs rows warnings = record {
+  cached = λ a n h. cc (sym (pairs a n) ∙ h);
+  so_far = so-far-start (IsNeeded [] []) gives old d.books.looks.items (holds_pair d.books.pairs) lookups
       nothing-needed pairs;
-  ordered = order-start d.books.looks.items (holds_pair d.books.pairs) looks pairs;
+  ordered = order-start d.books.looks.items (holds_pair d.books.pairs) lookups pairs;
   planned = planned-start o old d.rows.items d.outputs.items d.warnings.items rows outputs warnings;
 }
 
@@ -80,7 +80,7 @@ module _ (o : Options) (xs : List Input) (cs : List (Vec Config)) (x : Input) (o
     (first last : Outcomes) (old now next : CachedAnswers) (d e : Draft)
     (draft : IsDraft o xs cs first old now d) (same : SameOutcomes first last) (stays : Stays now next)
     (adds : AddsInput (length xs) o x own.items last now next d e)
-    (kept : AreAllCached (holds_pair e.books.pairs) next) (long : length cs ≡ length xs)
+    (cached : AreAllCached (holds_pair e.books.pairs) next) (long : length cs ≡ length xs)
     (new : (j : ℕ) (y : Input) → slice_get xs j ≡ Some y → path_of y ≢ path_of x) where
   needs-also : (a n : List ℕ) → Also (IsNeeded xs cs) own.items (row_entries (view_at adds.walked.form)) a n
       → IsNeeded (xs ++ x ∷ []) (cs ++ own ∷ []) a n
@@ -131,14 +131,14 @@ module _ (o : Options) (xs : List Input) (cs : List (Vec Config)) (x : Input) (o
   draft-more : IsDraft o (xs ++ x ∷ []) (cs ++ own ∷ []) first old next e
   draft-more =
       let es = row_entries (view_at adds.walked.form) in
-      let d_looks = d.books.looks.items in
-      let e_looks = e.books.looks.items in
+      let d_lookups = d.books.looks.items in
+      let e_lookups = e.books.looks.items in
       let d_pairs = holds_pair d.books.pairs in
       let e_pairs = holds_pair e.books.pairs in
-      let walked = steps-so-far (IsNeeded xs cs) own.items first last old same es now next d_looks e_looks
+      let walked = steps-so-far (IsNeeded xs cs) own.items first last old same es now next d_lookups e_lookups
       d_pairs e_pairs adds.walked.steps draft.so_far in
       let more = planned-more o now next xs cs (map line_of d.rows.items) adds.lines d.outputs.items
-      adds.outputs (map warning_view d.warnings.items) adds.told x own stays
+      adds.outputs (map warning_view d.warnings.items) adds.warnings x own stays
       draft.planned
       (record {
         form = adds.walked.form;
@@ -149,11 +149,11 @@ module _ (o : Options) (xs : List Input) (cs : List (Vec Config)) (x : Input) (o
         warned = adds.warned;
       }) long new in
       record {
-        kept = kept;
+        cached = cached;
         so_far = so-far-idle (Also (IsNeeded xs cs) own.items es)
-            (IsNeeded (xs ++ x ∷ []) (cs ++ own ∷ [])) first old next next e_looks e_looks e_pairs e_pairs
+            (IsNeeded (xs ++ x ∷ []) (cs ++ own ∷ [])) first old next next e_lookups e_lookups e_pairs e_pairs
             needs-also also-needs refl refl refl walked;
-        ordered = order-more xs cs x own last now next d_looks e_looks d_pairs e_pairs long draft.ordered
+        ordered = order-more xs cs x own last now next d_lookups e_lookups d_pairs e_pairs long draft.ordered
             adds.walked.form adds.walked.manifest adds.walked.steps;
         planned = subst (λ (l : List Line). ArePlanned o next (xs ++ x ∷ []) (cs ++ own ∷ []) l
             e.outputs.items (map warning_view e.warnings.items)) (sym adds.rows_are)
@@ -162,7 +162,7 @@ module _ (o : Options) (xs : List Input) (cs : List (Vec Config)) (x : Input) (o
             (sym adds.outputs_are)
             (subst (λ (t : List WarningView). ArePlanned o next (xs ++ x ∷ []) (cs ++ own ∷ [])
             (map line_of d.rows.items ++ adds.lines) (d.outputs.items ++ adds.outputs) t)
-            (sym adds.told_are) more));
+            (sym adds.warnings_are) more));
       }
 
 -- ---- the next of the inputs
@@ -204,25 +204,25 @@ input-at {inputs} {configs} {k} {x} {own} low long is own_at here_is = record {
 pub draft-next : (o : Options) {inputs : List Input} {configs : List (Vec Config)} {k : ℕ} {x : Input}
     {own : Vec Config} {here : List Config} (was now next : CacheView) (d e : Draft)
     → IsInputAt inputs configs k x own here → HaveOwnPaths inputs
-    → IsDraft o (take k inputs) (take k configs) was.gives was.kept now.kept d
-    → SameOutcomes was.gives now.gives → Stays now.kept next.kept
-    → AddsInput k o x here now.gives now.kept next.kept d e
-    → AreAllCached (holds_pair e.books.pairs) next.kept
-    → IsDraft o (take (k + 1) inputs) (take (k + 1) configs) was.gives was.kept next.kept e
-draft-next o {inputs} {configs} {k} {x} {own} was now next d e at apart draft same stays adds kept =
+    → IsDraft o (take k inputs) (take k configs) was.gives was.cached now.cached d
+    → SameOutcomes was.gives now.gives → Stays now.cached next.cached
+    → AddsInput k o x here now.gives now.cached next.cached d e
+    → AreAllCached (holds_pair e.books.pairs) next.cached
+    → IsDraft o (take (k + 1) inputs) (take (k + 1) configs) was.gives was.cached next.cached e
+draft-next o {inputs} {configs} {k} {x} {own} was now next d e at apart draft same stays adds cached =
     let le : k ≤ length inputs = omega (arith, at.low) in
     let le_own : k ≤ length configs = omega (arith, at.own_low) in
     let short : length (take k inputs) ≡ k = length-take-le k inputs le in
     let short_own : length (take k configs) ≡ k = length-take-le k configs le_own in
-    let own_adds : AddsInput (length (take k inputs)) o x own.items now.gives now.kept next.kept d e =
-    subst (λ (n : ℕ). AddsInput n o x own.items now.gives now.kept next.kept d e) (sym short)
-    (subst (λ (cs : List Config). AddsInput k o x cs now.gives now.kept next.kept d e) at.here_is adds) in
-    let more = draft-more o (take k inputs) (take k configs) x own was.gives now.gives was.kept now.kept
-    next.kept d e draft same stays own_adds kept (short_own ∙ sym short)
+    let own_adds : AddsInput (length (take k inputs)) o x own.items now.gives now.cached next.cached d e =
+    subst (λ (n : ℕ). AddsInput n o x own.items now.gives now.cached next.cached d e) (sym short)
+    (subst (λ (cs : List Config). AddsInput k o x cs now.gives now.cached next.cached d e) at.here_is adds) in
+    let more = draft-more o (take k inputs) (take k configs) x own was.gives now.gives was.cached now.cached
+    next.cached d e draft same stays own_adds cached (short_own ∙ sym short)
     (path-new inputs k x apart at.low (get-at inputs k x at.low at.is)) in
-    subst (λ (xs : List Input). IsDraft o xs (take (k + 1) configs) was.gives was.kept next.kept e)
+    subst (λ (xs : List Input). IsDraft o xs (take (k + 1) configs) was.gives was.cached next.cached e)
     (sym (taken-more inputs k x at.low at.is))
-    (subst (λ (cs : List (Vec Config)). IsDraft o (take k inputs ++ x ∷ []) cs was.gives was.kept next.kept e)
+    (subst (λ (cs : List (Vec Config)). IsDraft o (take k inputs ++ x ∷ []) cs was.gives was.cached next.cached e)
     (sym (taken-more configs k own at.own_low at.own_is)) more)
 
 -- ---- the documents that are given
@@ -278,4 +278,4 @@ pub left-next : {inputs : List Input} {configs : List (Vec Config)} {k : ℕ} {x
     → LeavesCache (IsNeeded inputs configs) was next
 left-next {inputs} {configs} {k} {x} {own} {here} was now next at left more =
     leaves-more (IsNeeded inputs configs) (IsNeededBy here x.bytes.items) was.gives now.gives next.gives
-    was.faults now.faults next.faults was.kept now.kept next.kept (needed-at at) left more
+    was.faults now.faults next.faults was.cached now.cached next.cached (needed-at at) left more

@@ -22,12 +22,12 @@ use Rattle.edit_sources.specs.Index.{answer_of}
 use Rattle.edit_upgrade.specs.Decision.{decision, newer, or_else}
 use Rattle.edit_upgrade.specs.Headline.{IsTextOfVersion, KeepsFloor, LatestIsNotLess, Narrows, Reaches}
 use Rattle.edit_upgrade.specs.Inputs.{Setting}
-use Rattle.edit_upgrade.specs.Looks.{Answer, lookup_at, versions_in}
+use Rattle.edit_upgrade.specs.Lookups.{Answer, lookup_at, versions_in}
 use Rattle.edit_upgrade.specs.Records.{RowEntry, row_entries}
-use Rattle.edit_upgrade.specs.Rows.{AreVersionsFor, IsDecided, IsRowOver, Line, case_for, dashes, elsewhere, line_for, told_there}
+use Rattle.edit_upgrade.specs.Rows.{AreVersionsFor, IsDecided, IsRowOver, Line, case_for, dashes, elsewhere, line_for, at_address}
 use Rattle.edit_upgrade.specs.Upgraded.{HasRows, IsRow, basis_of}
 use Rattle.edit_upgrade.specs.declared.decision.options.Options.{Options}
-use Rattle.edit_upgrade.proofs.KeptFloors.{compatible-kept, latest-kept}
+use Rattle.edit_upgrade.proofs.RaisedFloors.{compatible-qualifies, latest-qualifies}
 use Rattle.edit_upgrade.proofs.Narrowing.{latest-not-less, narrowing, reach}
 use Rattle.edit_upgrade.proofs.NotLess.{not-less, not-less-itself}
 
@@ -42,10 +42,10 @@ versions-valid rust (Some (Some entries)) = all-valid rust entries
 -- so is each that may be taken for an entry
 pub offered-valid : (s : Setting) (e : RowEntry) (xs : List Parts) → AreVersionsFor (basis_of s) e xs
     → All IsValid xs
-offered-valid s e xs (told_there address needs are) =
+offered-valid s e xs (at_address address needs are) =
     subst (λ (ys : List Parts). All IsValid ys) (sym are)
     (versions-valid s.rust
-    (option_map (λ look. answer_of look.answer) (lookup_at s.looks (serialize address) e.name)))
+    (option_map (λ lookup. answer_of lookup.answer) (lookup_at s.lookups (serialize address) e.name)))
 offered-valid s e xs (elsewhere other none) =
     subst (λ (ys : List Parts). All IsValid ys) (sym none) (All-nil IsValid)
 
@@ -54,8 +54,8 @@ admits-plain : (text : List ℕ) (v : Parts) → Admits text v → Admits text (
 admits-plain text v a = (a.0, a.1, admits-without_build a.0 v ∙ a.2)
 
 -- the text of a version tells it, but for its build metadata
-told-plain : (v : Parts) → IsValid v → IsTextOfVersion (Some (plain_text v)) (without_build v)
-told-plain v valid = plain_text-read v valid
+plain-version : (v : Parts) → IsValid v → IsTextOfVersion (Some (plain_text v)) (without_build v)
+plain-version v valid = plain_text-read v valid
 
 -- ---- one row
 
@@ -83,26 +83,26 @@ line-reaches i o xs e old line all d =
           let valid = greatest-has IsValid (is_admitted old) xs n.0 all near in (
             without_build n.0,
             subst (λ (x : Option Parts). IsTextOfVersion (option_map plain_text x) (without_build n.0))
-                (sym n.1) (told-plain n.0 valid),
+                (sym n.1) (plain-version n.0 valid),
             admits-plain (decision o c).new n.0 n.2.0,
           );
       latest = λ h.
           let r = reach o xs c all d.latest h in (
             without_build r.0,
             subst (λ (x : Option Parts). IsTextOfVersion (option_map plain_text (or_else x d.near))
-                (without_build r.0)) (sym r.2) (told-plain r.0 r.1),
+                (without_build r.0)) (sym r.2) (plain-version r.0 r.1),
             λ plain. admits-plain (decision o c).new r.0 (r.3 plain),
           );
     } in
     subst Reaches (sym d.is) there
 
 -- the latest version that a row tells, where there are both
-told-latest : (u v : Parts) → IsValid u → IsValid v → is_le (full_order u v) ≡ true
+latest-text : (u v : Parts) → IsValid u → IsValid v → is_le (full_order u v) ≡ true
     → (w : Parts) × IsTextOfVersion (option_map plain_text (or_else (newer (Some v) (Some u)) (Some u))) w
     × IsTrue (is_ge (precedence w (without_build u)))
-told-latest u v a b le = elim (cases_Bool (pointwise nat_eq (plain_text v) (plain_text u))) [
-  | inl same ↦ (without_build u, rw same (told-plain u a), not-less-itself (without_build u))
-  | inr other ↦ (without_build v, rw other (told-plain v b), not-less u v le)
+latest-text u v a b le = elim (cases_Bool (pointwise nat_eq (plain_text v) (plain_text u))) [
+  | inl same ↦ (without_build u, rw same (plain-version u a), not-less-itself (without_build u))
+  | inr other ↦ (without_build v, rw other (plain-version v b), not-less u v le)
 ]
 
 -- the two versions that a decided row tells
@@ -116,12 +116,12 @@ latest-of xs old None far all a b h = cc h
 latest-of xs old (Some u) far all a b h =
     let l = latest-not-less xs old u far a b in
     let valid = greatest-has IsValid (is_admitted old) xs u all a in
-    let kept = subst (λ (x : Option Parts). IsLatest old xs x) l.1 b in
-    let last = greatest-has IsValid (is_offered old) xs l.0 all kept in
-    let t = told-latest u l.0 valid last l.2 in (
+    let qualifies = subst (λ (x : Option Parts). IsLatest old xs x) l.1 b in
+    let last = greatest-has IsValid (is_offered old) xs l.0 all qualifies in
+    let t = latest-text u l.0 valid last l.2 in (
       without_build u,
       t.0,
-      told-plain u valid,
+      plain-version u valid,
       subst (λ (x : Option Parts). IsTextOfVersion
           (option_map plain_text (or_else (newer x (Some u)) (Some u))) t.0) (sym l.1) t.1,
       t.2,
@@ -134,8 +134,8 @@ pub line-floor : (i : ℕ) (o : Options) (xs : List Parts) (e : RowEntry) (old :
 line-floor i o xs e old line on all d =
     let c = case_for o e old d.near d.far in
     let there : KeepsFloor (line_for i e old d.near d.far (decision o c)) = λ h. elim h [
-      | inl far ↦ latest-kept o xs c all d.latest on far
-      | inr near ↦ compatible-kept o xs c all d.compatible near
+      | inl far ↦ latest-qualifies o xs c all d.latest on far
+      | inr near ↦ compatible-qualifies o xs c all d.compatible near
     ] in
     subst KeepsFloor (sym d.is) there
 

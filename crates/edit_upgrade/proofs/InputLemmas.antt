@@ -13,7 +13,7 @@ use Rattle.edit_upgrade.specs.Causes.{FirstInput, HasBadEntry, IsEntryCause}
 use Rattle.edit_upgrade.specs.Drafts.{outputs_on}
 use Rattle.edit_metadata.specs.Inputs.{HaveOwnPaths, path_of}
 use Rattle.edit_upgrade.specs.Inputs.{EachInput, OutputsInOrder, Setting, output_path, outputs_at, setting_of}
-use Rattle.edit_upgrade.specs.Looks.{CachedAnswers}
+use Rattle.edit_upgrade.specs.Lookups.{CachedAnswers}
 use Rattle.edit_upgrade.specs.Upgraded.{IsNeeded, IsNeededBy}
 use Rattle.edit_upgrade.specs.declared.decision.options.Options.{Options}
 use Rattle.edit_upgrade.specs.declared.upgrade.UpgradePlan.{UpgradePlan}

@@ -15,7 +15,7 @@ use Rattle.semver.specs.Parse.{Parts}
 use Rattle.edit_upgrade.specs.Drafts.{outputs_on}
 use Rattle.edit_upgrade.specs.Inputs.{output_path}
 use Rattle.edit_upgrade.specs.Lists.{IsWarningBy, IsWarningOn, WarningView, unparsed_requirement, unreadable_text, warning_record, warning_by}
-use Rattle.edit_upgrade.specs.Looks.{CachedAnswers, cached_basis}
+use Rattle.edit_upgrade.specs.Lookups.{CachedAnswers, cached_basis}
 use Rattle.edit_upgrade.specs.Outputs.{AreOutputs, HasOutputs, changed, unchanged}
 use Rattle.edit_upgrade.specs.Records.{RowEntry, Source, row_entries, source_of, version_of}
 use Rattle.edit_upgrade.specs.Rows.{AreDecided, IsRowOver, Line, writes}
@@ -29,15 +29,15 @@ row-input : (i : ℕ) (o : Options) (versions : List Parts) (e : RowEntry) (old 
 row-input i o versions e None line d = ap (λ (l : Line). l.input) d
 row-input i o versions e (Some old) line d = ap (λ (l : Line). l.input) d.is
 
-pub decided-inputs : (i : ℕ) (o : Options) (rust : Option Numbers) (configs : List Config) (kept : CachedAnswers)
+pub decided-inputs : (i : ℕ) (o : Options) (rust : Option Numbers) (configs : List Config) (cached : CachedAnswers)
     (es : List RowEntry) (ls : List Line)
-    → AreDecided (cached_basis i o rust configs kept) es ls → All (λ (l : Line). l.input ≡ i) ls
-decided-inputs i o rust configs kept [] [] h = All-nil (λ (l : Line). l.input ≡ i)
-decided-inputs i o rust configs kept [] (l ∷ ls) h = absurd h
-decided-inputs i o rust configs kept (e ∷ es) [] h = absurd h
-decided-inputs i o rust configs kept (e ∷ es) (l ∷ ls) h =
+    → AreDecided (cached_basis i o rust configs cached) es ls → All (λ (l : Line). l.input ≡ i) ls
+decided-inputs i o rust configs cached [] [] h = All-nil (λ (l : Line). l.input ≡ i)
+decided-inputs i o rust configs cached [] (l ∷ ls) h = absurd h
+decided-inputs i o rust configs cached (e ∷ es) [] h = absurd h
+decided-inputs i o rust configs cached (e ∷ es) (l ∷ ls) h =
     All-cons (λ (x : Line). x.input ≡ i) l ls (row-input i o h.0.versions e e.old l h.0.decided)
-    (decided-inputs i o rust configs kept es ls h.1)
+    (decided-inputs i o rust configs cached es ls h.1)
 
 -- ---- outputs
 
@@ -80,50 +80,50 @@ one-path-order path bytes lines outputs h all e = path-order path bytes
 warned-input : (i : ℕ) (name : List ℕ) (o : Option (List ℕ)) (w : WarningView)
     → option_map (λ old. warning_record i false (unreadable_text name old)) o ≡ Some w → w.input ≡ i
 warned-input i name None w h = cc h
-warned-input i name (Some old) w h = sym (ap told-input h)
+warned-input i name (Some old) w h = sym (ap result-input h)
   where
-    told-input : Option WarningView → ℕ
-    told-input None = i
-    told-input (Some t) = t.input
+    result-input : Option WarningView → ℕ
+    result-input None = i
+    result-input (Some t) = t.input
 
 by-source : (o : Options) (i : ℕ) (name : List ℕ) (r : EntryRecord) (source : Option Source) (w : WarningView)
     → warning_by o i name r source ≡ Some w → w.input ≡ i
-by-source o i name r None w h = sym (ap told-input h)
+by-source o i name r None w h = sym (ap result-input h)
   where
-    told-input : Option WarningView → ℕ
-    told-input None = i
-    told-input (Some t) = t.input
+    result-input : Option WarningView → ℕ
+    result-input None = i
+    result-input (Some t) = t.input
 by-source o i name r (Some source) w h =
     warned-input i name (option_and_then (unparsed_requirement o r) (version_of r)) w h
 
-by-record : (o : Options) (i : ℕ) (name : List ℕ) (said : Option EntryRecord) (told : Option WarningView) (w : WarningView)
-    → IsWarningBy o i name said told → told ≡ Some w → w.input ≡ i
-by-record o i name None told w h q = sym (ap told-input (sym h.1 ∙ q))
+by-record : (o : Options) (i : ℕ) (name : List ℕ) (said : Option EntryRecord) (result : Option WarningView) (w : WarningView)
+    → IsWarningBy o i name said result → result ≡ Some w → w.input ≡ i
+by-record o i name None result w h q = sym (ap result-input (sym h.1 ∙ q))
   where
-    told-input : Option WarningView → ℕ
-    told-input None = i
-    told-input (Some t) = t.input
-by-record o i name (Some r) told w h q = by-source o i name r (source_of r) w (sym h ∙ q)
+    result-input : Option WarningView → ℕ
+    result-input None = i
+    result-input (Some t) = t.input
+by-record o i name (Some r) result w h q = by-source o i name r (source_of r) w (sym h ∙ q)
 
-cons-input : (i : ℕ) (told : Option WarningView) (ts : List WarningView)
-    → ((w : WarningView) → told ≡ Some w → w.input ≡ i)
+cons-input : (i : ℕ) (result : Option WarningView) (ts : List WarningView)
+    → ((w : WarningView) → result ≡ Some w → w.input ≡ i)
     → All (λ (t : WarningView). t.input ≡ i) ts
-    → All (λ (t : WarningView). t.input ≡ i) (cons_option told ts)
+    → All (λ (t : WarningView). t.input ≡ i) (cons_option result ts)
 cons-input i None ts h g = g
 cons-input i (Some w) ts h g = All-cons (λ (t : WarningView). t.input ≡ i) w ts (h w refl) g
 
 warnings-input : (o : Options) (i : ℕ) (es : List found.Entry) (each : List (Option WarningView))
-    → AllZip (IsWarningOn o i) es each → All (λ (t : WarningView). t.input ≡ i) (filter_map (λ told. told) each)
+    → AllZip (IsWarningOn o i) es each → All (λ (t : WarningView). t.input ≡ i) (filter_map (λ result. result) each)
 warnings-input o i [] [] h = All-nil (λ (t : WarningView). t.input ≡ i)
 warnings-input o i [] (t ∷ ts) h = absurd h
 warnings-input o i (e ∷ es) [] h = absurd h
 warnings-input o i (e ∷ es) (t ∷ ts) h =
-    cons-input i t (filter_map (λ told. told) ts) (λ w q. by-record o i e.name e.said t w h.0 q)
+    cons-input i t (filter_map (λ result. result) ts) (λ w q. by-record o i e.name e.said t w h.0 q)
     (warnings-input o i es ts h.1)
 
-pub warned-inputs : (o : Options) (i : ℕ) (bytes : List ℕ) (told : List WarningView)
-    → HasWarnings o i bytes told
-    → All (λ (t : WarningView). t.input ≡ i) told
-warned-inputs o i bytes told h =
+pub warned-inputs : (o : Options) (i : ℕ) (bytes : List ℕ) (result : List WarningView)
+    → HasWarnings o i bytes result
+    → All (λ (t : WarningView). t.input ≡ i) result
+warned-inputs o i bytes result h =
     subst (λ (ts : List WarningView). All (λ (t : WarningView). t.input ≡ i) ts) (sym h.are.all)
     (warnings-input o i (entries (view_at h.form) []) h.are.each h.are.on)

@@ -3,13 +3,13 @@ pub mod Steps
 pub mod Chosen
 pub mod Bytes
 pub mod FetchLemmas
-pub mod LookedLemmas
+pub mod LookupSeriesLemmas
 pub mod LookUpLemmas
 pub mod PlannedLemmas
 pub mod WriteLemmas
 pub mod ListLemmas
 pub mod PlanLemmas
-pub mod WordLemmas
+pub mod PackageArgLemmas
 pub mod HeadlineRows
 pub mod DecidedAgain
 pub mod WrittenEntries
@@ -20,7 +20,7 @@ pub mod InputLemmas
 pub mod RankedLemmas
 pub mod SeenFacts
 pub mod StepLemmas
-pub mod LookOrderLemmas
+pub mod LookupOrderLemmas
 pub mod WalkLemmas
 pub mod EndLemmas
 pub mod ConfigListLemmas
@@ -30,7 +30,7 @@ pub mod FurtherInputs
 pub mod DraftedInputs
 pub mod CauseLemmas
 pub mod MissingLemmas
-pub mod WordCauseLemmas
+pub mod OptionCauseLemmas
 pub mod Readable
 pub mod NotLess
 pub mod LowerLemmas
@@ -38,7 +38,7 @@ pub mod FloorLemmas
 pub mod Pins
 pub mod TakenVersions
 pub mod Narrowing
-pub mod KeptFloors
+pub mod RaisedFloors
 pub mod RaisedAgain
 pub mod LowAgain
 mod DecisionFacts

@@ -36,12 +36,12 @@ or-if false true = refl
 or-if false false = refl
 
 -- a row that gives no name
-pub set-kept : (f : Line → Option (List ℕ)) (rows : List Row) (i : ℕ) (row : Row) → i < length rows → row
+pub set-unchanged : (f : Line → Option (List ℕ)) (rows : List Row) (i : ℕ) (row : Row) → i < length rows → row
     ≡ get_or rows i row → f (line_of row) ≡ None
     → (was : List ℕ → Bool) → ((name : List ℕ) → was name ≡ list_any (bytes_eq name)
     (filter_map f (map line_of (take i rows))))
     → (name : List ℕ) → was name ≡ list_any (bytes_eq name) (filter_map f (map line_of (take (i + 1) rows)))
-set-kept f rows i row h e none was before name =
+set-unchanged f rows i row h e none was before name =
     let xs = filter_map f (map line_of (take i rows)) in
     before name
     ∙ sym (ap (list_any (bytes_eq name)) (more-names f rows i row h e
@@ -96,14 +96,14 @@ git-none row h = rw h refl
 
 -- the warnings on an entry more
 pub warned-more : (o : Options) (i : ℕ) (es : List Entry) (ts new : List WarningView) (e : Entry)
-    (told : Option WarningView)
-    → AreWarnings o i es ts → IsWarningOn o i e told
-    → new ≡ ts ++ cons_option told [] → AreWarnings o i (es ++ e ∷ []) new
-warned-more o i es ts new e told a w n = record {
-  each = a.each ++ told ∷ [];
-  on = all_zipped_more (IsWarningOn o i) es a.each e told a.on w;
-  all = n ∙ ap (λ (l : List WarningView). l ++ cons_option told []) a.all
-      ∙ sym (filter_map-append (λ (o : Option WarningView). o) a.each (told ∷ []));
+    (result : Option WarningView)
+    → AreWarnings o i es ts → IsWarningOn o i e result
+    → new ≡ ts ++ cons_option result [] → AreWarnings o i (es ++ e ∷ []) new
+warned-more o i es ts new e result a w n = record {
+  each = a.each ++ result ∷ [];
+  on = all_zipped_more (IsWarningOn o i) es a.each e result a.on w;
+  all = n ∙ ap (λ (l : List WarningView). l ++ cons_option result []) a.all
+      ∙ sym (filter_map-append (λ (o : Option WarningView). o) a.each (result ∷ []));
 }
 
 pub warned-none : (o : Options) (i : ℕ) (ts : List WarningView) → ts ≡ [] → AreWarnings o i [] ts
@@ -124,7 +124,7 @@ none-ordered : IsStrictlySortedBy {K = String Global} string_cmp []
 unfolding IsStrictlySortedBy
 none-ordered = tt
 
-pub no-names : (told : List (String Global)) → told ≡ [] → AreNames [] told
-no-names told e =
+pub no-names : (result : List (String Global)) → result ≡ [] → AreNames [] result
+no-names result e =
     let none : AreNames [] [] = record { ordered = none-ordered; each = λ name. refl } in
     subst (λ (names : List (String Global)). AreNames [] names) (sym e) none

@@ -10,11 +10,11 @@ use Rattle.edit_sources.specs.Index.{Outcomes, SameOutcomes, answer_of, lookup_e
 use Rattle.edit_store.specs.Store.{IsRaisedCount}
 use Rattle.url.specs.Parts as url
 use Rattle.url.specs.Parts.{serialize}
-use Rattle.edit_upgrade.specs.Looked.{IsLookupMade, IsLookupError, IsWalkState, IsStep, Leaves, PairSet}
-use Rattle.edit_upgrade.specs.Looks.{AddsNeeded, Answer, AreLookups, IsIndexAnswer, CachedAnswers, is_lookup_at, lookup_at}
+use Rattle.edit_upgrade.specs.LookupSteps.{IsLookupMade, IsLookupError, IsWalkState, IsStep, Leaves, PairSet}
+use Rattle.edit_upgrade.specs.Lookups.{AddsNeeded, Answer, AreLookups, IsIndexAnswer, CachedAnswers, is_lookup_at, lookup_at}
 use Rattle.edit_upgrade.specs.declared.upgrade.Look.{Look}
 use Rattle.edit_upgrade.proofs.Bytes.{both-true, same-eq}
-use Rattle.edit_upgrade.proofs.LookedLemmas.{at-pair, find-one, lookup_at-more, looks-again, looks-more, looks-start}
+use Rattle.edit_upgrade.proofs.LookupSeriesLemmas.{at-pair, find-one, lookup_at-more, lookups-again, lookups-more, lookups-start}
 
 pub gives-trans : (a b c : Outcomes) → SameOutcomes a b → SameOutcomes b c → SameOutcomes a c
 gives-trans a b c h g address name outcome =
@@ -114,48 +114,48 @@ none-of : {A : Type 0} (o : Option A) → is_some o ≡ false → o ≡ None
 none-of None h = refl
 none-of (Some x) h = cc h
 
-pub look-with : (address name : List ℕ) (first last : Outcomes) (now next : CachedAnswers) (look : Look)
+pub lookup-with : (address name : List ℕ) (first last : Outcomes) (now next : CachedAnswers) (lookup : Look)
     → SameOutcomes first last
-    → IsLookupMade address name last now next look → IsLookupMade address name first now next look
-look-with address name first last now next look h l = record {
+    → IsLookupMade address name last now next lookup → IsLookupMade address name first now next lookup
+lookup-with address name first last now next lookup h l = record {
   at = l.at;
   of_name = l.of_name;
-  kept = l.kept;
+  cached = l.cached;
   given = elim l.given [
     | inl was ↦ inl was
     | inr gave ↦ inr
-        ((h look.registry name (Ok (answer_of look.answer))).0 gave)
+        ((h lookup.registry name (Ok (answer_of lookup.answer))).0 gave)
   ];
   others = l.others;
   stays = l.stays;
 }
 
-some-over : (o : Option Look) (look : Look) (b : Bool) → is_some
-    (option_or o (if b then Some look else None)) ≡ (if b then true else is_some o)
-some-over None look true = refl
-some-over None look false = refl
-some-over (Some x) look true = refl
-some-over (Some x) look false = refl
+some-over : (o : Option Look) (lookup : Look) (b : Bool) → is_some
+    (option_or o (if b then Some lookup else None)) ≡ (if b then true else is_some o)
+some-over None lookup true = refl
+some-over None lookup false = refl
+some-over (Some x) lookup true = refl
+some-over (Some x) lookup false = refl
 
 -- which pairs are found with one look more
-found-by : (address name : List ℕ) (looks : List Look) (look : Look) → serialize look.registry ≡ address
-    → string_bytes look.name ≡ name → (a n : List ℕ)
-    → is_some (lookup_at (looks ++ look ∷ []) a n) ≡ (if bytes_eq address a && bytes_eq name n then true else
-    is_some (lookup_at looks a n))
-found-by address name looks look p q a n =
-    ap is_some (lookup_at-more looks look a n
-    ∙ ap (λ (o : Option Look). option_or (lookup_at looks a n) o)
-    (find-one a n look (bytes_eq address a && bytes_eq name n) (at-pair address name look p q a n)))
-    ∙ some-over (lookup_at looks a n) look (bytes_eq address a && bytes_eq name n)
+found-by : (address name : List ℕ) (made : List Look) (lookup : Look) → serialize lookup.registry ≡ address
+    → string_bytes lookup.name ≡ name → (a n : List ℕ)
+    → is_some (lookup_at (made ++ lookup ∷ []) a n) ≡ (if bytes_eq address a && bytes_eq name n then true else
+    is_some (lookup_at made a n))
+found-by address name made lookup p q a n =
+    ap is_some (lookup_at-more made lookup a n
+    ∙ ap (λ (o : Option Look). option_or (lookup_at made a n) o)
+    (find-one a n lookup (bytes_eq address a && bytes_eq name n) (at-pair address name lookup p q a n)))
+    ∙ some-over (lookup_at made a n) lookup (bytes_eq address a && bytes_eq name n)
 
 -- a walk of which nothing was done
-pub so-far-start : (Needed : List ℕ → List ℕ → Type 0) (first : Outcomes) (old : CachedAnswers) (looks : List Look)
-    (pairs : PairSet) → looks ≡ []
+pub so-far-start : (Needed : List ℕ → List ℕ → Type 0) (first : Outcomes) (old : CachedAnswers) (made : List Look)
+    (pairs : PairSet) → made ≡ []
     → ((a n : List ℕ) → Needed a n → ⊥) → ((a n : List ℕ) → pairs a n ≡ false)
-    → IsWalkState Needed first old old looks pairs
-so-far-start Needed first old looks pairs none nothing h =
+    → IsWalkState Needed first old old made pairs
+so-far-start Needed first old made pairs none nothing h =
     subst (λ (l : List Look). IsWalkState Needed first old old l pairs) (sym none)
-    (record { looked = looks-start Needed first old nothing; set = h })
+    (record { lookups = lookups-start Needed first old nothing; set = h })
 
 -- a pair that the test tells is the pair
 pair-is : (address name a n : List ℕ) (pairs : PairSet) → pairs address name ≡ true
@@ -167,59 +167,59 @@ pair-is address name a n pairs h e =
 
 -- a step for a pair that is needed
 pub so-far-step : (P Q : List ℕ → List ℕ → Type 0) (first last : Outcomes) (old now next : CachedAnswers)
-    (looks more : List Look) (pairs then_pairs : PairSet)
+    (made more : List Look) (pairs then_pairs : PairSet)
     (address name : List ℕ) → ((a n : List ℕ) → P a n → Q a n)
     → ((a n : List ℕ) → Q a n → P a n ⊎ ((a ≡ address) × (n ≡ name))) → Q address name
-    → SameOutcomes first last → IsWalkState P first old now looks pairs
-    → IsStep address name last now next looks more pairs then_pairs
+    → SameOutcomes first last → IsWalkState P first old now made pairs
+    → IsStep address name last now next made more pairs then_pairs
     → IsWalkState Q first old next more then_pairs
-so-far-step P Q first last old now next looks more pairs then_pairs address name wider cases pair same s
+so-far-step P Q first last old now next made more pairs then_pairs address name wider cases pair same s
     step = by step.done
   where
-    by : ((pairs address name ≡ true) × (more ≡ looks) × (next ≡ now))
-        ⊎ ((look : Look) × (pairs address name ≡ false) × (more ≡ looks ++ look ∷ [])
-        × IsLookupMade address name last now next look)
+    by : ((pairs address name ≡ true) × (more ≡ made) × (next ≡ now))
+        ⊎ ((lookup : Look) × (pairs address name ≡ false) × (more ≡ made ++ lookup ∷ [])
+        × IsLookupMade address name last now next lookup)
         → IsWalkState Q first old next more then_pairs
     by (inl done) =
-        let here : IsSome (lookup_at looks address name) = sym (s.set address name) ∙ done.0 in
-        let found : (a n : List ℕ) → Q a n → IsSome (lookup_at looks a n) = λ a n h. elim (cases a n h) [
-          | inl before ↦ s.looked.complete a n before
-          | inr it ↦ subst (λ (x : List ℕ). IsSome (lookup_at looks x n)) (sym it.0)
-              (subst (λ (x : List ℕ). IsSome (lookup_at looks address x)) (sym it.1) here)
+        let here : IsSome (lookup_at made address name) = sym (s.set address name) ∙ done.0 in
+        let found : (a n : List ℕ) → Q a n → IsSome (lookup_at made a n) = λ a n h. elim (cases a n h) [
+          | inl before ↦ s.lookups.complete a n before
+          | inr it ↦ subst (λ (x : List ℕ). IsSome (lookup_at made x n)) (sym it.0)
+              (subst (λ (x : List ℕ). IsSome (lookup_at made address x)) (sym it.1) here)
         ] in
-        let set : (a n : List ℕ) → then_pairs a n ≡ is_some (lookup_at looks a n) = λ a n.
+        let set : (a n : List ℕ) → then_pairs a n ≡ is_some (lookup_at made a n) = λ a n.
         step.set a n ∙ added-again (bytes_eq address a && bytes_eq name n) (pairs a n)
         (pair-is address name a n pairs done.0) ∙ s.set a n in
         subst (λ (k : CachedAnswers). IsWalkState Q first old k more then_pairs) (sym done.2)
         (subst (λ (l : List Look). IsWalkState Q first old now l then_pairs) (sym done.1)
-        (record { looked = looks-again P Q first old now looks wider found s.looked; set = set }))
+        (record { lookups = lookups-again P Q first old now made wider found s.lookups; set = set }))
     by (inr one) =
-        let none = none-of (lookup_at looks address name) (sym (s.set address name) ∙ one.1) in
-        let look = look-with address name first last now next one.0 same one.3 in
-        let set : (a n : List ℕ) → then_pairs a n ≡ is_some (lookup_at (looks ++ one.0 ∷ []) a n) = λ a n.
+        let none = none-of (lookup_at made address name) (sym (s.set address name) ∙ one.1) in
+        let lookup = lookup-with address name first last now next one.0 same one.3 in
+        let set : (a n : List ℕ) → then_pairs a n ≡ is_some (lookup_at (made ++ one.0 ∷ []) a n) = λ a n.
         step.set a n ∙ ap (λ (b : Bool). if bytes_eq address a && bytes_eq name n then true else b)
         (s.set a n)
-        ∙ sym (found-by address name looks one.0 look.at look.of_name a n) in
+        ∙ sym (found-by address name made one.0 lookup.at lookup.of_name a n) in
         subst (λ (l : List Look). IsWalkState Q first old next l then_pairs) (sym one.2)
         (record {
-          looked = looks-more P Q first old now next looks one.0 address name wider cases pair none
-              look s.looked;
+          lookups = lookups-more P Q first old now next made one.0 address name wider cases pair none
+              lookup s.lookups;
           set = set;
         })
 
 -- a step of which nothing is needed
 pub so-far-idle : (P Q : List ℕ → List ℕ → Type 0) (first : Outcomes) (old now next : CachedAnswers)
-    (looks more : List Look) (pairs then_pairs : PairSet)
-    → ((a n : List ℕ) → P a n → Q a n) → ((a n : List ℕ) → Q a n → P a n) → more ≡ looks → then_pairs
+    (made more : List Look) (pairs then_pairs : PairSet)
+    → ((a n : List ℕ) → P a n → Q a n) → ((a n : List ℕ) → Q a n → P a n) → more ≡ made → then_pairs
     ≡ pairs → next ≡ now
-    → IsWalkState P first old now looks pairs → IsWalkState Q first old next more then_pairs
-so-far-idle P Q first old now next looks more pairs then_pairs wider same a b c s =
+    → IsWalkState P first old now made pairs → IsWalkState Q first old next more then_pairs
+so-far-idle P Q first old now next made more pairs then_pairs wider same a b c s =
     subst (λ (k : CachedAnswers). IsWalkState Q first old k more then_pairs) (sym c)
     (subst (λ (l : List Look). IsWalkState Q first old now l then_pairs) (sym a)
-    (subst (λ (p : PairSet). IsWalkState Q first old now looks p) (sym b)
+    (subst (λ (p : PairSet). IsWalkState Q first old now made p) (sym b)
     (record {
-      looked = looks-again P Q first old now looks wider
-          (λ x n h. s.looked.complete x n (same x n h)) s.looked;
+      lookups = lookups-again P Q first old now made wider
+          (λ x n h. s.lookups.complete x n (same x n h)) s.lookups;
       set = s.set;
     })))
 
@@ -236,20 +236,20 @@ find-some p (y ∷ ys) h = elim (cases_Bool (p y)) [
 ]
 
 -- each pair that is needed has an answer
-pub answered : (Needed : List ℕ → List ℕ → Type 0) (first : Outcomes) (old now : CachedAnswers) (looks : List Look)
+pub answered : (Needed : List ℕ → List ℕ → Type 0) (first : Outcomes) (old now : CachedAnswers) (made : List Look)
     (address n : List ℕ)
-    → AreLookups Needed first old now looks → Needed address n → (x : Look)
-    × (lookup_at looks address n ≡ Some x) × (now address n ≡ Some (answer_of x.answer))
-answered Needed first old now looks address n m need =
-    let f = find-some (is_lookup_at address n) looks (m.complete address n need) in
+    → AreLookups Needed first old now made → Needed address n → (x : Look)
+    × (lookup_at made address n ≡ Some x) × (now address n ≡ Some (answer_of x.answer))
+answered Needed first old now made address n m need =
+    let f = find-some (is_lookup_at address n) made (m.complete address n need) in
     let b = both-true (bytes_eq (serialize f.0.registry) address) (bytes_eq (string_bytes f.0.name) n) f.2 in
-    let kept = All-contains (λ look. now (serialize look.registry) (string_bytes look.name)
-    ≡ Some (answer_of look.answer)) looks f.0 m.as_kept f.3 in (
+    let cached = All-contains (λ lookup. now (serialize lookup.registry) (string_bytes lookup.name)
+    ≡ Some (answer_of lookup.answer)) made f.0 m.as_cached f.3 in (
       f.0,
       f.1,
       ap (λ (a : List ℕ). now a n) (sym (same-eq (serialize f.0.registry) address b.0))
           ∙ ap (λ (q : List ℕ). now (serialize f.0.registry) q)
-          (sym (same-eq (string_bytes f.0.name) n b.1)) ∙ kept,
+          (sym (same-eq (string_bytes f.0.name) n b.1)) ∙ cached,
     )
 
 later : (a b c d : ℕ) → a ≤ b → IsRaisedCount b c → IsRaisedCount a c
@@ -260,5 +260,5 @@ pub refused-with : (first last : Outcomes) (address : url.Parts) (name : List �
     → SameOutcomes first last → a ≤ b
     → IsLookupError last address name b c e → IsLookupError first address name a c e
 refused-with first last address name a b c e h l (inr device) = inr (device.0, later a b c 0 l device.1)
-refused-with first last address name a b c e h l (inl refusal) = inl
-    (refusal.0, (h address name (Err (lookup_error e))).0 refusal.1)
+refused-with first last address name a b c e h l (inl failure) = inl
+    (failure.0, (h address name (Err (lookup_error e))).0 failure.1)

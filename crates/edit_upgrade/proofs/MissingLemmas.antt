@@ -10,11 +10,11 @@ use Rattle.edit_metadata.specs.declared.input.Input.{Input}
 use Rattle.edit_record.specs.EachOnce.{each_once}
 use Rattle.edit_version.specs.CrateSpecs.{spec_name}
 use Rattle.edit_upgrade.specs.Missing.{AddsNames, AreKnown, AreMissing, HasEntryNames, is_among, name_of, names_in}
-use Rattle.edit_upgrade.specs.Words.{is_named, package_args_of}
+use Rattle.edit_upgrade.specs.EntrySelection.{is_named, package_args_of}
 use Rattle.edit_upgrade.specs.declared.decision.options.Options.{Options}
 use Rattle.edit_upgrade.proofs.EndLemmas.{filter-same}
 use Rattle.edit_upgrade.proofs.Steps.{taken-more}
-use Rattle.edit_upgrade.proofs.WordLemmas.{once_named}
+use Rattle.edit_upgrade.proofs.PackageArgLemmas.{once_named}
 
 -- two lists that go together, each with one more
 zip-push : {A B : Type 0} (R : A → B → Type 0) (xs : List A) (ys : List B) (x : A) (y : B) → AllZip R xs ys
@@ -97,11 +97,11 @@ either-of false true a b = refl
 either-of false false a b = refl
 
 -- one entry more
-pub names-kept : (name : List ℕ) (s first old new : Bool) (es more : List Entry) (e : Entry)
+pub names-extended : (name : List ℕ) (s first old new : Bool) (es more : List Entry) (e : Entry)
     → more ≡ es ++ e ∷ [] → old ≡ (first || (s && list_any (bytes_eq name) (names_in es)))
     → new ≡ (old || (s && list_any (bytes_eq name) (names_in (e ∷ []))))
     → new ≡ (first || (s && list_any (bytes_eq name) (names_in more)))
-names-kept name s first old new es more e is h n =
+names-extended name s first old new es more e is h n =
     let among : List (List ℕ) → Bool = list_any (bytes_eq name) in
     n ∙ ap (λ b. b || (s && among (names_in (e ∷ [])))) h
     ∙ either-of first s (among (names_in es)) (among (names_in (e ∷ [])))
@@ -112,10 +112,10 @@ names-kept name s first old new es more e is h n =
 -- ---- names that are not known, one by one
 
 -- the one name that a filter keeps
-kept-one : (known : List ℕ → Bool) (name : List ℕ) (b : Bool) → known name ≡ b
+filtered-one : (known : List ℕ → Bool) (name : List ℕ) (b : Bool) → known name ≡ b
     → cond b [] (name ∷ []) ≡ filter (λ n. not (known n)) (name ∷ [])
-kept-one known name true e = rw e refl
-kept-one known name false e = rw e refl
+filtered-one known name true e = rw e refl
+filtered-one known name false e = rw e refl
 
 -- one name more
 pub unknown-more : (known : List ℕ → Bool) (names more : List (List ℕ)) (text name : List ℕ)
@@ -126,5 +126,5 @@ unknown-more known names more text name old new is same h n =
     let test : List ℕ → Bool = λ x. not (known x) in
     n ∙ ap (λ (t : List ℕ). old ++ cond (known t) [] (t ∷ [])) same
     ∙ ap (λ (l : List (List ℕ)). l ++ cond (known name) [] (name ∷ [])) h
-    ∙ ap (λ (l : List (List ℕ)). filter test names ++ l) (kept-one known name (known name) refl)
+    ∙ ap (λ (l : List (List ℕ)). filter test names ++ l) (filtered-one known name (known name) refl)
     ∙ sym (filter-append test names (name ∷ [])) ∙ ap (filter test) (sym is)

@@ -33,7 +33,7 @@ narrow-of xs old t u (Text s) all near e h other =
     let same : s ≡ t = cc h in
     narrower-of old u t (valid-version u (greatest-has IsValid (is_admitted old) xs u all near))
     (text-outcome old u t (e ∙ ap Text same))
-    (admitted old u near.kept)
+    (admitted old u near.qualifies)
 
 -- a compatible change: the new text admits the compatible version, and nothing that the old one does not
 pub narrowing : (o : Options) (xs : List Parts) (c : Case) → All IsValid xs
@@ -87,7 +87,7 @@ reach o xs c all islatest h =
     let far = subst (λ (x : Option Parts). IsLatest c.old xs x)
     (newer-latest c.latest c.compatible f.0 f.1) islatest in
     let valid = greatest-has IsValid (is_offered c.old) xs f.0 all far in
-    let l = latest-lands c.old f.0 k.0 valid far.kept f.2 in
+    let l = latest-lands c.old f.0 k.0 valid far.qualifies f.2 in
     (f.0, valid, f.1, λ plain. subst (λ (x : List ℕ). Admits x f.0) (sym k.2) (l.reached plain))
 
 -- where there is a compatible version, there is a latest one that is not less

@@ -20,7 +20,7 @@ use Rattle.edit_version.specs.CrateSpecs.{spec_name}
 use Rattle.edit_version.specs.Greatest.{IsGreatest, advance}
 use Rattle.edit_version.specs.VersionOrder.{full_order}
 use Rattle.edit_upgrade.specs.Pins.{Pin, greatest, pin_at, pins_of, arg_pin}
-use Rattle.edit_upgrade.proofs.Entries.{word-more}
+use Rattle.edit_upgrade.proofs.Entries.{arg-more}
 
 -- every version counts
 abbrev every : Parts → Bool
@@ -82,11 +82,11 @@ joined-cond true pin o = refl
 joined-cond false pin o = refl
 
 -- the last word of a name stands
-last-stands : (words : List (List ℕ)) (word name : List ℕ)
-    → pin_at (pins_of (words ++ word ∷ [])) name
-    ≡ cond (bytes_eq name (spec_name word)) (arg_pin word) (pin_at (pins_of words) name)
-last-stands words word name =
-    ap (λ es. pin_at es name) (word-more words word)
+last-stands : (args : List (List ℕ)) (arg name : List ℕ)
+    → pin_at (pins_of (args ++ arg ∷ [])) name
+    ≡ cond (bytes_eq name (spec_name arg)) (arg_pin arg) (pin_at (pins_of args) name)
+last-stands args arg name =
+    ap (λ es. pin_at es name) (arg-more args arg)
     ∙ ap (option_and_then (λ (p : Option Pin). p))
-    (lookup-inserted name (spec_name word) (arg_pin word) (pins_of words))
-    ∙ joined-cond (bytes_eq name (spec_name word)) (arg_pin word) (lookup (bytes_eq name) (pins_of words))
+    (lookup-inserted name (spec_name arg) (arg_pin arg) (pins_of args))
+    ∙ joined-cond (bytes_eq name (spec_name arg)) (arg_pin arg) (lookup (bytes_eq name) (pins_of args))

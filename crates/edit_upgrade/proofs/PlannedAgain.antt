@@ -18,12 +18,12 @@ use Rattle.edit_upgrade.specs.Outputs.{AreOutputs, HasOutputs, changed, unchange
 use Rattle.edit_upgrade.specs.Records.{RowEntry, row_entries}
 use Rattle.edit_upgrade.specs.Rows.{Line, with_write, writes}
 use Rattle.edit_upgrade.specs.Upgraded.{HasRows, IsNeededFor, IsNeededIn, IsRow}
-use Rattle.edit_upgrade.specs.Words.{HasOnlyNames}
+use Rattle.edit_upgrade.specs.EntrySelection.{HasOnlyNames}
 use Rattle.edit_report.specs.declared.output.Output.{Output}
 use Rattle.edit_upgrade.proofs.FixedPoint.{all-again, cut-whole, none-written}
 use Rattle.edit_upgrade.proofs.SomeRows.{some-again}
 use Rattle.edit_upgrade.proofs.SeenFacts.{Stands, mapped-all, seen-apart, seen-stands, writes-strings}
-use Rattle.edit_upgrade.proofs.WordLemmas.{none_given}
+use Rattle.edit_upgrade.proofs.PackageArgLemmas.{none_given}
 use Rattle.edit_upgrade.proofs.WrittenEntries.{renew, renewed, written-seen}
 
 -- the requirement of each seen entry is cut already

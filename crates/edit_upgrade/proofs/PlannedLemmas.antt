@@ -21,15 +21,15 @@ use Rattle.edit_upgrade.specs.Causes.{HasBadEntry, IsPassed, StopsFirst}
 use Rattle.edit_upgrade.specs.Found.{row_entry_view}
 use Rattle.edit_upgrade.specs.Lines.{line_of}
 use Rattle.edit_upgrade.specs.Lists.{AreWarnings, WarningView}
-use Rattle.edit_upgrade.specs.Looked.{AreSteps, Leaves}
-use Rattle.edit_upgrade.specs.Looks.{CachedAnswers, cached_basis}
+use Rattle.edit_upgrade.specs.LookupSteps.{AreSteps, Leaves}
+use Rattle.edit_upgrade.specs.Lookups.{CachedAnswers, cached_basis}
 use Rattle.edit_upgrade.specs.Missing.{AddsNames, names_in}
 use Rattle.edit_upgrade.specs.PairSets.{holds_pair}
 use Rattle.edit_upgrade.specs.PlannedView.{AreRowEntries, IsPlannedView, IsWalked}
 use Rattle.edit_upgrade.specs.Records.{RowEntry, row_entries}
 use Rattle.edit_upgrade.specs.Rows.{AreDecided, Basis, IsRowBy, Line}
 use Rattle.edit_upgrade.specs.Upgraded.{HasWarnings, IsNeededBy, IsNeededIn}
-use Rattle.edit_upgrade.specs.Words.{is_named, package_args_of}
+use Rattle.edit_upgrade.specs.EntrySelection.{is_named, package_args_of}
 use Rattle.edit_upgrade.specs.declared.planned.Planned.{Planned}
 use Rattle.edit_upgrade.specs.declared.entries_with_rows.Entry.{Entry}
 use Rattle.edit_upgrade.specs.declared.decision.options.Options.{Options}
@@ -47,10 +47,10 @@ same-seen d form h =
     ap row_entries same
 
 -- what is refused with an error of this cause has it
-pub refusal-has : {T : Type 0} (r : Result T Error) (e : Error) (P : Error → Type 0)
+pub failure-has : {T : Type 0} (r : Result T Error) (e : Error) (P : Error → Type 0)
     → IsErrAnd r (λ other. other ≡ e) → P e → IfErr r P
-refusal-has (Ok x) e P same h = tt
-refusal-has (Err other) e P same h = subst P (sym same) h
+failure-has (Ok x) e P same h = tt
+failure-has (Err other) e P same h = subst P (sym same) h
 
 -- they are seen in whatever form
 seen-in : (bytes : List ℕ) (es : List RowEntry) → (a : AreRowEntries bytes es) → (f : Text) → IsDocument bytes f

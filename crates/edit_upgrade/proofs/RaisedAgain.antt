@@ -7,7 +7,7 @@ use Rattle.semver.specs.Grammar.{IsValid}
 use Rattle.semver.specs.OrderLaws.{same_text}
 use Rattle.semver.specs.Parse.{Held, Parts, req_of}
 use Rattle.semver.specs.declared.error.Error as semver_error
-use Rattle.edit_version.specs.Greatest.{IsGreatestKept}
+use Rattle.edit_version.specs.Greatest.{IsGreatestItem}
 use Rattle.edit_version.specs.Requirement.{Nothing, UpgradeResult, Text, Unread, Unsupported, plain_text, upgrade_of, upgrade_all, upgrade_parsed, unless_same}
 use Rattle.edit_version.specs.Selection.{IsCompatible, IsLatest, is_admitted, is_offered}
 use Rattle.edit_version.specs.VersionOrder.{full_order}
@@ -31,7 +31,7 @@ newer-none u v e =
 
 -- neither version raises a text that the latest one was written into
 settled-at : (xs : List Parts) (t : List ℕ) (v : Parts) (near : Option Parts) → Lands v t
-    → IsGreatestKept (is_offered t) full_order xs v
+    → IsGreatestItem (is_offered t) full_order xs v
     → IsCompatible t xs near → (far_text t (Some v) near ≡ None) × (near_text t near ≡ None)
 settled-at xs t v None l far near = (rw l.fixed refl, refl)
 settled-at xs t v (Some u) l far near =
@@ -41,7 +41,7 @@ settled-at xs t v (Some u) l far near =
 
 -- what was raised to the latest version stays
 pub latest-settles : (xs : List Parts) (old t : List ℕ) (v : Parts) (far near : Option Parts) → Lands v t
-    → IsGreatestKept (is_offered old) full_order xs v → IsLatest t xs far → IsCompatible t xs near
+    → IsGreatestItem (is_offered old) full_order xs v → IsLatest t xs far → IsCompatible t xs near
     → (far_text t far near ≡ None) × (near_text t near ≡ None)
 latest-settles xs old t v far near l h isfar isnear =
     let mine = latest-again xs old t v l h in
@@ -54,34 +54,34 @@ latest-settles xs old t v far near l h isfar isnear =
 -- where the latest version has the compatible one's text, so it has after the change
 same-again : (xs : List Parts) (old t : List ℕ) (u v : Parts) (far : Option Parts) → All IsValid xs
     → Lands u t
-    → IsGreatestKept (is_admitted old) full_order xs u → IsGreatestKept (is_offered old) full_order xs v
+    → IsGreatestItem (is_admitted old) full_order xs u → IsGreatestItem (is_offered old) full_order xs v
     → plain_text v ≡ plain_text u
     → IsLatest t xs far → far_text t far (Some u) ≡ None
 same-again xs old t u v far all l near h e isfar =
     let s = plain_text-parts u v (greatest-has IsValid (is_admitted old) xs u all near)
     (greatest-has IsValid (is_offered old) xs v all h) e in
-    let mine : IsGreatestKept (is_offered t) full_order xs v = elim (release-or u) [
+    let mine : IsGreatestItem (is_offered t) full_order xs v = elim (release-or u) [
       | inl plain ↦
           let vplain : length v.3 ≡ 0 = ap (λ (x : List ℕ). length x) s.3 ∙ plain in
           fewer (is_offered t) (is_offered old)
           (λ x k. offered-plain old x (plain-offered t x k (l.plain plain))) xs v h
           (offered-plain t v vplain)
       | inr some ↦
-          let dash = dash-offered old u (admitted-offered old u near.kept) some in
+          let dash = dash-offered old u (admitted-offered old u near.qualifies) some in
           fewer (is_offered t) (is_offered old) (λ x k. offered-dash old x dash) xs v h
-          (offered-dash t v (l.marked some))
+          (offered-dash t v (l.dashed some))
     ] in
     let f : far ≡ Some v = greatest-same (is_offered t) xs far (Some v) isfar mine in
     subst (λ (x : Option Parts). far_text t x (Some u) ≡ None) (sym f) (rw (newer-none u v e) refl)
 
 -- a later version that raising leaves the text for has the compatible one's text
 nothing-same : (xs : List Parts) (old : List ℕ) (u v : Parts) → All IsValid xs
-    → IsGreatestKept (is_admitted old) full_order xs u
-    → IsGreatestKept (is_offered old) full_order xs v → upgrade_of old v ≡ Nothing
+    → IsGreatestItem (is_admitted old) full_order xs u
+    → IsGreatestItem (is_offered old) full_order xs v → upgrade_of old v ≡ Nothing
     → plain_text v ≡ plain_text u
 nothing-same xs old u v all near h none =
     let valid = greatest-has IsValid (is_offered old) xs v all h in
-    let l = outcome-lands old v old valid h.kept (nothing-outcome old v none) in
+    let l = outcome-lands old v old valid h.qualifies (nothing-outcome old v none) in
     let s = near-is xs old v u l h near in
     sym (plain-same u v s)
 
@@ -100,7 +100,7 @@ text-none other (Text t) h n = cc h
 -- what was raised to the compatible version is not raised to a later one, if it was not before
 pub compatible-far : (xs : List Parts) (old t : List ℕ) (u : Parts) (latest far : Option Parts)
     → All IsValid xs → upgrade_of old u ≡ Text t
-    → IsGreatestKept (is_admitted old) full_order xs u → IsLatest old xs latest
+    → IsGreatestItem (is_admitted old) full_order xs u → IsLatest old xs latest
     → far_text old latest (Some u) ≡ None
     → IsLatest t xs far → far_text t far (Some u) ≡ None
 compatible-far xs old t u None far all r near islatest none isfar =
@@ -108,7 +108,7 @@ compatible-far xs old t u None far all r near islatest none isfar =
     (λ x k. admitted-offered old x k) xs u near islatest)
 compatible-far xs old t u (Some v) far all r near islatest none isfar =
     let valid = greatest-has IsValid (is_admitted old) xs u all near in
-    let l = outcome-lands old u t valid (admitted-offered old u near.kept) (text-outcome old u t r) in
+    let l = outcome-lands old u t valid (admitted-offered old u near.qualifies) (text-outcome old u t r) in
     elim (cases_Bool (pointwise nat_eq (plain_text v) (plain_text u))) [
       | inl same ↦ same-again xs old t u v far all l near islatest (same_text _ _ same) isfar
       | inr other ↦
@@ -144,13 +144,13 @@ compatible-far xs old t u (Some v) far all r near islatest none isfar =
 -- the compatible version is the same after the change, and raises nothing
 pub compatible-near : (xs : List Parts) (old t : List ℕ) (u : Parts) (near : Option Parts) → All IsValid xs
     → upgrade_of old u ≡ Text t
-    → IsGreatestKept (is_admitted old) full_order xs u → IsCompatible t xs near
+    → IsGreatestItem (is_admitted old) full_order xs u → IsCompatible t xs near
     → (near ≡ Some u) × (near_text t near ≡ None)
 compatible-near xs old t u near all r h isnear =
     let valid = greatest-has IsValid (is_admitted old) xs u all h in
     let w = valid-version u valid in
     let o = text-outcome old u t r in
-    let n = narrower-of old u t w o (admitted old u h.kept) in
+    let n = narrower-of old u t w o (admitted old u h.qualifies) in
     let e : near ≡ Some u = greatest-same (is_admitted t) xs near (Some u) isnear
     (near-again xs old t u n h) in
     (e, subst (λ (x : Option Parts). near_text t x ≡ None) (sym e) (rw (settled-of old u t w o).1 refl))

@@ -15,18 +15,18 @@ use Rattle.edit_cache.specs.CachedAnswer.{IsRankedAt}
 use Rattle.edit_cache.specs.Ranking.{IsRanking, ranks_of}
 use Rattle.edit_sources.specs.declared.index.IndexKrate.{IndexKrate}
 use Rattle.edit_cache.specs.declared.ranking.Ranked.{Ranked}
-use Rattle.edit_upgrade.specs.Looks.{Answer, cached_by, versions_in}
+use Rattle.edit_upgrade.specs.Lookups.{Answer, cached_by, versions_in}
 use Rattle.edit_upgrade.specs.Rankings.{IsRankingOf}
 
 -- the ranking that is kept beside an answer is that of its entries
-pub ranking-kept : (answer : Option (Option IndexKrate)) (ranked : Option Ranked) → IsRankedAt answer ranked
+pub ranking-cached : (answer : Option (Option IndexKrate)) (ranked : Option Ranked) → IsRankedAt answer ranked
     → IsRankingOf (option_map answer_of answer) ranked
-ranking-kept None None h = h
-ranking-kept None (Some ranked) h = h
-ranking-kept (Some None) None h = h
-ranking-kept (Some None) (Some ranked) h = h
-ranking-kept (Some (Some krate)) None h = h
-ranking-kept (Some (Some krate)) (Some ranked) h = h
+ranking-cached None None h = h
+ranking-cached None (Some ranked) h = h
+ranking-cached (Some None) None h = h
+ranking-cached (Some None) (Some ranked) h = h
+ranking-cached (Some (Some krate)) None h = h
+ranking-cached (Some (Some krate)) (Some ranked) h = h
 
 -- where there is no ranking, no version is told
 pub none-ranked : (keep : Parts → Bool) (rust : Option Numbers) (answer : Option Answer)
@@ -47,5 +47,5 @@ greatest-ranked keep rust ranked best g (Some None) h = absurd h
 greatest-ranked keep rust ranked best g (Some (Some entries)) h = g entries h
 
 -- the answers that a cache keeps, where each is the one that was
-pub kept-same : {I : Type 0} (old new : IndexCache I) → HasSameCache old new → cached_by new ≡ cached_by old
-kept-same old new h = λ i address name. option_map answer_of (h address name i)
+pub cached-same : {I : Type 0} (old new : IndexCache I) → HasSameCache old new → cached_by new ≡ cached_by old
+cached-same old new h = λ i address name. option_map answer_of (h address name i)

@@ -74,12 +74,12 @@ cons-all : {B : Type 0} (P : B → Type 0) (o : Option B) (bs : List B) → ((b 
 cons-all P None bs h g = g
 cons-all P (Some b) bs h g = (h b refl, g)
 
-pub kept-all : {A B : Type 0} (Q : A → Type 0) (P : B → Type 0) (f : A → Option B) (xs : List A)
+pub filtered-all : {A B : Type 0} (Q : A → Type 0) (P : B → Type 0) (f : A → Option B) (xs : List A)
     → AllByRecursion Q xs
     → ((x : A) (b : B) → Q x → f x ≡ Some b → P b) → AllByRecursion P (filter_map f xs)
-kept-all Q P f [] h g = tt
-kept-all Q P f (x ∷ xs) h g =
-    cons-all P (f x) (filter_map f xs) (λ b e. g x b h.0 e) (kept-all Q P f xs h.1 g)
+filtered-all Q P f [] h g = tt
+filtered-all Q P f (x ∷ xs) h g =
+    cons-all P (f x) (filter_map f xs) (λ b e. g x b h.0 e) (filtered-all Q P f xs h.1 g)
 
 pub mapped-all : {A : Type 0} (P Q : A → Type 0) (xs : List A) → ((x : A) → P x → Q x) → AllByRecursion P xs
     → AllByRecursion Q xs
@@ -88,7 +88,7 @@ mapped-all P Q (x ∷ xs) f h = (f x h.0, mapped-all P Q xs f h.1)
 
 -- the literals of all entries that get a row
 pub seen-stands : (t : Tree) → AllByRecursion (Stands t) (row_entries t)
-seen-stands t = kept-all (IsEntryOf t []) (Stands t) with_row (entries t []) (entries-of t [])
+seen-stands t = filtered-all (IsEntryOf t []) (Stands t) with_row (entries t []) (entries-of t [])
     (λ e s k h. stands t e s k h)
 
 -- ---- literals that differ
@@ -105,7 +105,7 @@ cons-apart : (e : Entry) (es : List Entry) (o : Option RowEntry) → with_row e 
     → AreApart (filter_map with_row es) → AreApart (cons_option o (filter_map with_row es))
 cons-apart e es None q h g = g
 cons-apart e es (Some s) q h g = (
-  kept-all (λ f. same_literal e f ≡ false) (λ r. same_place s.literal r.literal ≡ false) with_row es h
+  filtered-all (λ f. same_literal e f ≡ false) (λ r. same_place s.literal r.literal ≡ false) with_row es h
       (λ f r d k. ap (λ (p : Place). same_place p r.literal) (row-literal e s q)
       ∙ ap (same_place e.literal) (row-literal f r k) ∙ d),
   g,

@@ -12,7 +12,7 @@ use Rattle.url.specs.Parts.{serialize}
 use Rattle.edit_upgrade.specs.Decision.{decision}
 use Rattle.edit_upgrade.specs.Inputs.{Setting}
 use Rattle.edit_upgrade.specs.Records.{RowEntry}
-use Rattle.edit_upgrade.specs.Rows.{AreVersionsFor, Basis, IsDecided, IsRowOver, Line, case_for, dashes, elsewhere, is_elsewhere, line_for, told_there}
+use Rattle.edit_upgrade.specs.Rows.{AreVersionsFor, Basis, IsDecided, IsRowOver, Line, case_for, dashes, elsewhere, is_elsewhere, line_for, at_address}
 use Rattle.edit_upgrade.specs.Upgraded.{IsRow, basis_of}
 use Rattle.edit_upgrade.specs.declared.decision.options.Options.{Options}
 use Rattle.edit_upgrade.proofs.WrittenEntries.{renew, renewed}
@@ -55,8 +55,8 @@ some-row i o xs e (Some old) = some-line i o xs e old
 -- an entry with another requirement takes the same versions
 pub other-versions : (b : Basis) (e f : RowEntry) (xs : List Parts) → f.name ≡ e.name → f.source ≡ e.source
     → AreVersionsFor b e xs → AreVersionsFor b f xs
-other-versions b e f xs name source (told_there address needs are) =
-    told_there address
+other-versions b e f xs name source (at_address address needs are) =
+    at_address address
     (record { named = needs.named; source = source ∙ needs.source; has = needs.has; crate_name = refl })
     (are ∙ ap (b.versions (serialize address)) (sym name))
 other-versions b e f xs name source (elsewhere other none) = elsewhere (ap is_elsewhere source ∙ other) none

@@ -9,18 +9,18 @@ whole : {A B C : Type 0} (v : C → A) (f : A → Option B) (ys : List C) (y : C
 whole v f ys y = ap (filter_map f) (map-append v ys (y ∷ [])) ∙ filter_map-append f (map v ys) (v y ∷ [])
 
 -- the item gives nothing
-pub kept-none : {A B C : Type 0} (v : C → A) (f : A → Option B) (ys : List C) (y : C) (xs : List B)
+pub filtered-none : {A B C : Type 0} (v : C → A) (f : A → Option B) (ys : List C) (y : C) (xs : List B)
     → xs ≡ filter_map f (map v ys) → f (v y) ≡ None → xs ≡ filter_map f (map v (ys ++ y ∷ []))
-kept-none {A} {B} v f ys y xs e h =
+filtered-none {A} {B} v f ys y xs e h =
     e ∙ sym (whole v f ys y ∙ ap (λ (o : Option B). filter_map f (map v ys) ++ cons_option o []) h
     ∙ append-nil (filter_map f (map v ys)))
 
 -- the item gives one
-pub kept-some : {A B C D : Type 0} (v : C → A) (f : A → Option B) (g : D → B) (ys : List C) (y : C)
+pub filtered-some : {A B C D : Type 0} (v : C → A) (f : A → Option B) (g : D → B) (ys : List C) (y : C)
     (old new : List D) (d : D)
     → map g old ≡ filter_map f (map v ys) → f (v y) ≡ Some (g d) → new ≡ old ++ d ∷ []
     → map g new ≡ filter_map f (map v (ys ++ y ∷ []))
-kept-some {A} {B} v f g ys y old new d e h n =
+filtered-some {A} {B} v f g ys y old new d e h n =
     ap (map g) n ∙ map-append g old (d ∷ []) ∙ ap (λ (l : List B). l ++ g d ∷ []) e
     ∙ sym (whole v f ys y ∙ ap (λ (o : Option B). filter_map f (map v ys) ++ cons_option o []) h)
 

@@ -30,7 +30,7 @@ abbrev usual : List ℕ → ParsedOptions
 usual name = record {
   modified = name ∷ [];
   git_crates = [];
-  words = [];
+  args = [];
   compatible = true;
   recursive = None;
   dry_run = false;
@@ -39,7 +39,7 @@ usual name = record {
 
 -- the words before those that say what is updated, and after them
 abbrev call_of : List (List ℕ) → Call
-call_of words = codes "cargo" ∷ codes "update" ∷ codes "--manifest-path" ∷ codes "/w/Cargo.toml" ∷ words
+call_of args = codes "cargo" ∷ codes "update" ∷ codes "--manifest-path" ∷ codes "/w/Cargo.toml" ∷ args
 
 abbrev serde : PackageModel
 serde = package_of (codes "serde") (1, 2, 3, [], []) None
@@ -63,22 +63,22 @@ locked = refl
 
 -- a word with a version, and versions that are not raised to compatible ones
 abbrev exact : ParsedOptions
-exact = record (usual (codes "docopt")) { words = codes "docopt@99999.0.0" ∷ []; compatible = false }
+exact = record (usual (codes "docopt")) { args = codes "docopt@99999.0.0" ∷ []; compatible = false }
 
 abbrev docopt : PackageModel
 docopt = package_of (codes "docopt") (99999, 0, 0, [], []) None
 
-exact_word : update_calls exact (workspace_of (docopt ∷ [])) ≡
+exact_arg : update_calls exact (workspace_of (docopt ∷ [])) ≡
     call_of (codes "--precise" ∷ codes "99999.0.0" ∷ codes "--package" ∷ codes "docopt@99999.0.0"
     ∷ codes "--offline" ∷ []) ∷ []
 unfolding semver_on_literals digits
-exact_word = refl
+exact_arg = refl
 
 -- the name has a precise version, so nothing is left for a recursive call
-recursive_word : update_calls (record exact { recursive = Some true }) (workspace_of (docopt ∷ []))
+recursive_arg : update_calls (record exact { recursive = Some true }) (workspace_of (docopt ∷ []))
     ≡ update_calls exact (workspace_of (docopt ∷ []))
 unfolding semver_on_literals digits
-recursive_word = refl
+recursive_arg = refl
 
 -- packages of repositories, in their order; one of that name from elsewhere is not among them
 abbrev from_repository : List ℕ → Parts → PackageModel
@@ -96,10 +96,10 @@ unfolding semver_on_literals digits
 repositories = refl
 
 -- the last word of a name stands, and names stand in byte order
-last_word : pins_of (codes "b@1.0.0" ∷ codes "a" ∷ codes "b" ∷ [])
+last_arg : pins_of (codes "b@1.0.0" ∷ codes "a" ∷ codes "b" ∷ [])
     ≡ (codes "a", None) ∷ (codes "b", None) ∷ []
 unfolding semver_on_literals digits
-last_word = refl
+last_arg = refl
 
 -- a requirement without three numbers, or only behind `>` or `<`, has no precise version
 two_numbers : pin_of (codes "1.2") ≡ None

@@ -15,10 +15,10 @@ use Rattle.url.specs.Parts as url
 use Rattle.url.specs.Parts.{serialize}
 use Rattle.edit_upgrade.specs.Causes.{IsPassed, StopsAt, StopsFirst}
 use Rattle.edit_upgrade.specs.Causes.StopsAt.{no_address, no_answer}
-use Rattle.edit_upgrade.specs.Looked.{IsAt, IsEntryStep, IsLookupError, IsStep, Leaves, PairSet, Stays}
-use Rattle.edit_upgrade.specs.Looks.{Answer, AreLookups, CachedAnswers, cached_basis, looked_up_versions, versions_in}
+use Rattle.edit_upgrade.specs.LookupSteps.{IsAt, IsEntryStep, IsLookupError, IsStep, Leaves, PairSet, Stays}
+use Rattle.edit_upgrade.specs.Lookups.{Answer, AreLookups, CachedAnswers, cached_basis, lookup_versions, versions_in}
 use Rattle.edit_upgrade.specs.Records.{RowEntry, at_registry}
-use Rattle.edit_upgrade.specs.Rows.{AreDecided, AreVersionsFor, Basis, IsRowBy, IsRowOver, Line, Needs, elsewhere, is_elsewhere, told_there}
+use Rattle.edit_upgrade.specs.Rows.{AreDecided, AreVersionsFor, Basis, IsRowBy, IsRowOver, Line, Needs, elsewhere, is_elsewhere, at_address}
 use Rattle.edit_upgrade.specs.Upgraded.{IsNeededFor, IsNeededIn}
 use Rattle.edit_upgrade.specs.declared.upgrade.Look.{Look}
 use Rattle.edit_upgrade.specs.declared.decision.options.Options.{Options}
@@ -38,7 +38,7 @@ Agree configs v w e = (address : url.Parts) → Needs configs e address e.name �
 versions-over : (i : ℕ) (o : Options) (configs : List Config) (v w : List ℕ → List ℕ → List Parts)
     (e : RowEntry) (xs : List Parts) → Agree configs v w e
     → AreVersionsFor (basis_over i o configs v) e xs → AreVersionsFor (basis_over i o configs w) e xs
-versions-over i o configs v w e xs h (told_there address needs are) = told_there address needs
+versions-over i o configs v w e xs h (at_address address needs are) = at_address address needs
     (are ∙ h address needs)
 versions-over i o configs v w e xs h (elsewhere other none) = elsewhere other none
 
@@ -109,21 +109,21 @@ rows-further i o rust configs now next es ls e l passed stays d row =
     (rows-stay i o rust configs now next es ls stays passed d) row
 
 -- rows over the answers that are kept are rows over the looks
-pub rows-told : (Needed : List ℕ → List ℕ → Type 0) (i : ℕ) (o : Options) (rust : Option Numbers)
+pub rows-from : (Needed : List ℕ → List ℕ → Type 0) (i : ℕ) (o : Options) (rust : Option Numbers)
     (configs : List Config) (first : Outcomes)
-    (old now : CachedAnswers) (looks : List Look) (es : List RowEntry) (ls : List Line)
-    → ((a n : List ℕ) → IsNeededIn configs es a n → Needed a n) → AreLookups Needed first old now looks
+    (old now : CachedAnswers) (made : List Look) (es : List RowEntry) (ls : List Line)
+    → ((a n : List ℕ) → IsNeededIn configs es a n → Needed a n) → AreLookups Needed first old now made
     → AreDecided (cached_basis i o rust configs now) es ls → AreDecided
-    (basis_over i o configs (looked_up_versions rust looks)) es ls
-rows-told Needed i o rust configs first old now looks es ls wider m d =
+    (basis_over i o configs (lookup_versions rust made)) es ls
+rows-from Needed i o rust configs first old now made es ls wider m d =
     let v : List ℕ → List ℕ → List Parts = λ a n. versions_in rust (now a n) in
-    rows-over i o configs v (looked_up_versions rust looks) es ls
-    (All-weaker (Contains es) (Agree configs v (looked_up_versions rust looks))
+    rows-over i o configs v (lookup_versions rust made) es ls
+    (All-weaker (Contains es) (Agree configs v (lookup_versions rust made))
     (λ x c address needs.
-    let f = answered Needed first old now looks (serialize address) x.name m
+    let f = answered Needed first old now made (serialize address) x.name m
     (wider (serialize address) x.name (of-entry configs es x address x.name c needs)) in
     ap (versions_in rust) f.2 ∙ sym (ap (λ (y : Option Look). versions_in rust
-    (option_map (λ look. answer_of look.answer) y)) f.1)) es (All-contains_itself es)) d
+    (option_map (λ lookup. answer_of lookup.answer) y)) f.1)) es (All-contains_itself es)) d
 
 -- ---- the first entry that stops a walk
 
@@ -206,29 +206,29 @@ registry-left configs e named address name first last b c old new q has same lef
 
 pub registry-step : (configs : List Config) (e : RowEntry) (named : Option (List ℕ)) (address : url.Parts)
     (name : List ℕ) (gives : Outcomes) (old new : CachedAnswers)
-    (looks more : List Look) (pairs then_pairs : PairSet) → e.source ≡ at_registry named
+    (made more : List Look) (pairs then_pairs : PairSet) → e.source ≡ at_registry named
     → HasAddress configs named address → name ≡ e.name
-    → IsStep (serialize address) name gives old new looks more pairs then_pairs
-    → IsEntryStep configs e gives old new looks more pairs then_pairs
-registry-step configs e named address name gives old new looks more pairs then_pairs q has same step
+    → IsStep (serialize address) name gives old new made more pairs then_pairs
+    → IsEntryStep configs e gives old new made more pairs then_pairs
+registry-step configs e named address name gives old new made more pairs then_pairs q has same step
     = record {
-      looked = λ other p. (
+      lookups = λ other p. (
         address,
         subst (λ (r : Option (List ℕ)). HasAddress configs r address) (one-named e named other q p) has,
-        subst (λ (n : List ℕ). IsStep (serialize address) n gives old new looks more pairs then_pairs) same
+        subst (λ (n : List ℕ). IsStep (serialize address) n gives old new made more pairs then_pairs) same
             step,
       );
       idle = λ other. absurd (not-both e named q other);
     }
 
-pub registry-decided : (i : ℕ) (o : Options) (rust : Option Numbers) (configs : List Config) (kept : CachedAnswers)
+pub registry-decided : (i : ℕ) (o : Options) (rust : Option Numbers) (configs : List Config) (cached : CachedAnswers)
     (e : RowEntry) (named : Option (List ℕ)) (address : url.Parts) (line : Line)
     → e.source ≡ at_registry named → HasAddress configs named address
-    → IsRowOver i o (versions_in rust (kept (serialize address) e.name)) e e.old line
-    → IsRowBy (cached_basis i o rust configs kept) e line
-registry-decided i o rust configs kept e named address line q has d = record {
-  versions = versions_in rust (kept (serialize address) e.name);
-  offered = told_there address (own-needs configs e named address e.name q has refl) refl;
+    → IsRowOver i o (versions_in rust (cached (serialize address) e.name)) e e.old line
+    → IsRowBy (cached_basis i o rust configs cached) e line
+registry-decided i o rust configs cached e named address line q has d = record {
+  versions = versions_in rust (cached (serialize address) e.name);
+  offered = at_address address (own-needs configs e named address e.name q has refl) refl;
   decided = d;
 }
 
@@ -238,19 +238,19 @@ pub no-registry : (configs : List Config) (e : RowEntry) (named : Option (List �
 no-registry configs e named gives old b c error q (inl memory) = inl memory
 no-registry configs e named gives old b c error q (inr h) = inr (no_address named q h)
 
-pub no-look : (configs : List Config) (e : RowEntry) (named : Option (List ℕ)) (address : url.Parts)
+pub no-lookup : (configs : List Config) (e : RowEntry) (named : Option (List ℕ)) (address : url.Parts)
     (name : List ℕ) (gives : Outcomes) (old : CachedAnswers) (b c : ℕ) (error : Error)
     → e.source ≡ at_registry named → HasAddress configs named address → name ≡ e.name
     → IsMemory error ⊎ ((old (serialize address) name ≡ None) × IsLookupError gives address name b c error)
     → IsMemory error ⊎ StopsAt configs gives old b c e error
-no-look configs e named address name gives old b c error q has same (inl memory) = inl memory
-no-look configs e named address name gives old b c error q has same (inr h) =
+no-lookup configs e named address name gives old b c error q has same (inl memory) = inl memory
+no-lookup configs e named address name gives old b c error q has same (inr h) =
     inr (no_answer address name (own-needs configs e named address name q has same) h.0 h.1)
 
 -- ---- an entry from elsewhere
 
-pub elsewhere-decided : (i : ℕ) (o : Options) (rust : Option Numbers) (configs : List Config) (kept : CachedAnswers)
+pub elsewhere-decided : (i : ℕ) (o : Options) (rust : Option Numbers) (configs : List Config) (cached : CachedAnswers)
     (e : RowEntry) (line : Line) → is_elsewhere e.source ≡ true
-    → IsRowOver i o [] e e.old line → IsRowBy (cached_basis i o rust configs kept) e line
-elsewhere-decided i o rust configs kept e line other d = record
+    → IsRowOver i o [] e e.old line → IsRowBy (cached_basis i o rust configs cached) e line
+elsewhere-decided i o rust configs cached e line other d = record
     { versions = []; offered = elsewhere other refl; decided = d }

@@ -83,14 +83,14 @@ cons-mapped : {A : Type 0} (f : A → A) (o : Option A) (xs : List A)
 cons-mapped f None xs = refl
 cons-mapped f (Some x) xs = refl
 
-kept-after : (ws : Edits) (es : List Entry)
+rows-after : (ws : Edits) (es : List Entry)
     → filter_map with_row (map (entry_after ws) es)
     ≡ map (λ (s : RowEntry). seen_after (new_text ws s.literal) s) (filter_map with_row es)
-kept-after ws [] = refl
-kept-after ws (e ∷ es) =
+rows-after ws [] = refl
+rows-after ws (e ∷ es) =
     ap (λ (o : Option RowEntry). cons_option o (filter_map with_row (map (entry_after ws) es))) (row-after ws e)
     ∙ ap (λ (xs : List RowEntry). cons_option
-    (option_map (λ s. seen_after (new_text ws s.literal) s) (with_row e)) xs) (kept-after ws es)
+    (option_map (λ s. seen_after (new_text ws s.literal) s) (with_row e)) xs) (rows-after ws es)
     ∙ cons-mapped (λ (s : RowEntry). seen_after (new_text ws s.literal) s) (with_row e) (filter_map with_row es)
 
 -- where no entry has its literal, nothing is written
@@ -174,5 +174,5 @@ written-seen R t u ls apart zip h =
     let whole : u ≡ tree_with_strings ws t = λ i q. h q i in
     ap row_entries whole
     ∙ ap (filter_map with_row) (entries-after ws t [] (writes-strings t ls) (writes-literals t ls))
-    ∙ kept-after ws (entries t [])
+    ∙ rows-after ws (entries t [])
     ∙ all-after R (row_entries t) ls apart zip

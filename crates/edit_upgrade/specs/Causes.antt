@@ -12,8 +12,8 @@ use Rattle.edit_sources.specs.Index.{Outcomes}
 use Rattle.edit_sources.specs.declared.config.Config.{Config}
 use Rattle.url.specs.Parts as url
 use Rattle.url.specs.Parts.{serialize}
-use Rattle.edit_upgrade.specs.Looked.{IsLookupError}
-use Rattle.edit_upgrade.specs.Looks.{CachedAnswers}
+use Rattle.edit_upgrade.specs.LookupSteps.{IsLookupError}
+use Rattle.edit_upgrade.specs.Lookups.{CachedAnswers}
 use Rattle.edit_upgrade.specs.Records.{RowEntry, at_registry, row_entries}
 use Rattle.edit_upgrade.specs.Rows.{Needs}
 use Rattle.edit_metadata.specs.declared.input.Input.{Input}

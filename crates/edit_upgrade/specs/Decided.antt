@@ -1,6 +1,6 @@
 -- The values that a decision is made of, over the program's types.
 use Rattle.std.specs.Prelude.{List, ℕ, Bool, true, false, not, ◌&&◌, if◌then◌else◌, is_some, Option, option_copied, string_bytes, Some, None}
-use Rattle.edit_upgrade.specs.Decision.{Case, Choice, Outcome, first_reason, first_row, kept, given, left_out, or_else, row_change, row_text, same_text, to_compatible, to_latest, unless, unread, some_if}
+use Rattle.edit_upgrade.specs.Decision.{Case, Choice, Outcome, first_reason, first_row, up_to_date, given, left_out, or_else, row_change, row_text, same_text, to_compatible, to_latest, unless, unread, some_if}
 use Rattle.edit_upgrade.specs.declared.decision.options.Options.{Options}
 use Rattle.edit_report.specs.declared.row.Reason.{Reason}
 use Rattle.edit_report.specs.declared.row.Reason.TheVariants as reason
@@ -36,7 +36,7 @@ reason_by jumps pinned far near (given text) = None
 reason_by jumps pinned far near unread = None
 reason_by jumps pinned far near (to_latest text) = None
 reason_by jumps pinned far near (to_compatible text) = withheld_reason_by jumps pinned far
-reason_by jumps pinned far near kept =
+reason_by jumps pinned far near up_to_date =
     or_else (withheld_reason_by jumps pinned far) (some_if (is_some near) (Some reason.Compatible))
 
 -- whether an entry may be raised to the latest version: the option `pinned` decides for pinned entries, the

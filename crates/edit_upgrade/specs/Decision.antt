@@ -112,7 +112,7 @@ pub data Outcome : Type 0 where
   unread : Outcome
   to_latest : List ℕ → Outcome
   to_compatible : List ℕ → Outcome
-  kept : Outcome
+  up_to_date : Outcome
 
 -- the first outcome that applies: left out, a given text, an unparsable one, the latest, the compatible
 abbrev pub first_row : Bool → Option (List ℕ) → Bool → Option (List ℕ) → Option (List ℕ) → Outcome
@@ -121,7 +121,7 @@ first_row false (Some text) read far near = given text
 first_row false None false far near = unread
 first_row false None true (Some text) near = to_latest text
 first_row false None true None (Some text) = to_compatible text
-first_row false None true None None = kept
+first_row false None true None None = up_to_date
 
 -- the outcome for an entry under these options (own)
 abbrev pub row_of : Options → Case → Outcome
@@ -167,7 +167,7 @@ row_reason o c (given text) = None
 row_reason o c unread = None
 row_reason o c (to_latest text) = None
 row_reason o c (to_compatible text) = withheld_reason o c
-row_reason o c kept = or_else (withheld_reason o c) (some_if (is_some (compatible_text c))
+row_reason o c up_to_date = or_else (withheld_reason o c) (some_if (is_some (compatible_text c))
     (Some reason.Compatible))
 
 -- the decision: the new requirement, the kind of change, and why the requirement was not raised further

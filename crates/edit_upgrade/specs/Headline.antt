@@ -12,7 +12,7 @@ use Rattle.edit_upgrade.specs.Lines.{line_of}
 use Rattle.edit_upgrade.specs.Outputs.{HasOutputs}
 use Rattle.edit_upgrade.specs.Rows.{Line}
 use Rattle.edit_upgrade.specs.Upgraded.{HasRows, IsNeededBy}
-use Rattle.edit_upgrade.specs.Words.{HasOnlyNames}
+use Rattle.edit_upgrade.specs.EntrySelection.{HasOnlyNames}
 use Rattle.edit_report.specs.declared.row.Change.TheVariants as change
 use Rattle.edit_metadata.specs.declared.input.Input.{Input}
 use Rattle.edit_report.specs.declared.output.Output.{Output}

@@ -22,16 +22,16 @@ pub record Setting : Type 0 where
   pub options : Options
   pub rust : Option Numbers
   pub configs : List Config
-  pub looks : List Look
+  pub lookups : List Look
 
 -- the setting of an input
 abbrev pub setting_of : ℕ → Options → Input → List Config → List Look → Setting
-setting_of i o input configs looks = record {
+setting_of i o input configs lookups = record {
   input = i;
   options = o;
   rust = option_map numbers_of input.rust_version;
   configs = configs;
-  looks = looks;
+  lookups = lookups;
 }
 
 -- the property holds of the plan for each input, in its setting (own)
@@ -56,7 +56,7 @@ RowsInOrder inputs p = map line_of p.rows.items ≡ flat_map (λ i. rows_of i p)
 
 -- the warnings about the input at an index
 abbrev pub warnings_of : ℕ → UpgradePlan → List WarningView
-warnings_of i p = filter (λ told. told.input == i) (map warning_view p.warnings.items)
+warnings_of i p = filter (λ warning. warning.input == i) (map warning_view p.warnings.items)
 
 -- the warnings are those about the inputs, in the order of the inputs (own)
 abbrev pub WarningsInOrder : List Input → UpgradePlan → Type 0

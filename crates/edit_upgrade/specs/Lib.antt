@@ -3,11 +3,11 @@ pub mod Records
 pub mod Rows
 pub mod Lines
 pub mod Found
-pub mod Looks
+pub mod Lookups
 pub mod Inputs
-pub mod Looked
+pub mod LookupSteps
 pub mod Upgraded
-pub mod LookOrder
+pub mod LookupOrder
 pub mod Causes
 pub mod ConfigLists
 pub mod Lists
@@ -17,9 +17,9 @@ pub mod Headline
 pub mod Addresses
 pub mod PairSets
 pub mod Drafts
-pub mod Words
+pub mod EntrySelection
 pub mod PackageSelection
-pub mod WordCauses
+pub mod OptionCauses
 pub mod Caches
 pub mod Plans
 pub mod Missing

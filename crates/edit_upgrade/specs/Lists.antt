@@ -10,7 +10,7 @@ use Rattle.edit_upgrade.specs.Decision.{Case, Outcome, row_of, unread, some_if}
 use Rattle.edit_upgrade.specs.Lines.{line_of}
 use Rattle.edit_upgrade.specs.Records.{Source, source_of, version_of}
 use Rattle.edit_upgrade.specs.Rows.{Line}
-use Rattle.edit_upgrade.specs.Words.{is_excluded, requirement_for}
+use Rattle.edit_upgrade.specs.EntrySelection.{is_excluded, requirement_for}
 use Rattle.edit_report.specs.declared.row.Reason.{Reason}
 use Rattle.edit_report.specs.declared.row.Reason.TheVariants as reason
 use Rattle.edit_upgrade.specs.declared.decision.options.Options.{Options}
@@ -94,19 +94,19 @@ warning_by o i key r (Some source) =
 
 -- the warning about an entry: where it could not be read, one with the reason
 abbrev pub IsWarningBy : Options → ℕ → List ℕ → Option EntryRecord → Option WarningView → Type 0
-IsWarningBy o i key None told = (text : List ℕ)
-    × (told ≡ Some (warning_record i false (ignored_text key text)))
-IsWarningBy o i key (Some r) told = told ≡ warning_by o i key r (source_of r)
+IsWarningBy o i key None result = (text : List ℕ)
+    × (result ≡ Some (warning_record i false (ignored_text key text)))
+IsWarningBy o i key (Some r) result = result ≡ warning_by o i key r (source_of r)
 
 -- the warning about an entry of a dependency table
 abbrev pub IsWarningOn : Options → ℕ → Entry → Option WarningView → Type 0
-IsWarningOn o i e told = IsWarningBy o i e.name e.said told
+IsWarningOn o i e result = IsWarningBy o i e.name e.said result
 
 -- the warnings about entries, at most one for each, in order
 pub record AreWarnings (o : Options) (i : ℕ) (es : List Entry) (ts : List WarningView) : Type 0 where
   pub each : List (Option WarningView)
   pub on : AllZip (IsWarningOn o i) es each
-  pub all : ts ≡ filter_map (λ told. told) each
+  pub all : ts ≡ filter_map (λ result. result) each
 
 -- the row is that of a git dependency without a requirement
 abbrev pub is_git : Option Reason → Bool
@@ -122,9 +122,9 @@ abbrev pub git_names : List Line → List (List ℕ)
 git_names lines = filter_map git_name lines
 
 -- these names, sorted by bytes, without duplicates
-pub record AreNames (names : List (List ℕ)) (told : List (String Global)) : Type 0 where
-  pub ordered : IsStrictlySortedBy string_cmp told
-  pub each : (name : List ℕ) → list_any (bytes_eq name) (map string_bytes told)
+pub record AreNames (names : List (List ℕ)) (result : List (String Global)) : Type 0 where
+  pub ordered : IsStrictlySortedBy string_cmp result
+  pub each : (name : List ℕ) → list_any (bytes_eq name) (map string_bytes result)
       ≡ list_any (bytes_eq name) names
 
 -- the lists of a plan agree with its rows: the names of the rows that change, and of git dependencies

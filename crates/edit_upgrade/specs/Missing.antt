@@ -9,7 +9,7 @@ use Rattle.edit_manifest.specs.Entries.{Entry, entries}
 use Rattle.edit_metadata.specs.declared.input.Input.{Input}
 use Rattle.edit_record.specs.EachOnce.{each_once}
 use Rattle.edit_version.specs.CrateSpecs.{spec_name}
-use Rattle.edit_upgrade.specs.Words.{is_named, package_args_of}
+use Rattle.edit_upgrade.specs.EntrySelection.{is_named, package_args_of}
 use Rattle.edit_upgrade.specs.declared.decision.options.Options.{Options}
 use Rattle.edit_upgrade.specs.declared.upgrade.UpgradePlan.{UpgradePlan}
 

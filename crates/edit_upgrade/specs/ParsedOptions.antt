@@ -8,7 +8,7 @@ use Rattle.edit_upgrade.specs.declared.upgrade.UpgradePlan.{UpgradePlan}
 pub record ParsedOptions : Type 0 where
   pub modified : List (List ℕ)
   pub git_crates : List (List ℕ)
-  pub words : List (List ℕ)
+  pub args : List (List ℕ)
   pub compatible : Bool
   pub recursive : Option Bool
   pub dry_run : Bool
@@ -19,7 +19,7 @@ abbrev pub call_options : UpgradePlan → Options → ParsedOptions
 call_options plan options = record {
   modified = map string_bytes plan.modified.items;
   git_crates = map string_bytes plan.git_crates.items;
-  words = map string_bytes options.package.items;
+  args = map string_bytes options.package.items;
   compatible = options.compatible;
   recursive = options.recursive;
   dry_run = options.dry_run;

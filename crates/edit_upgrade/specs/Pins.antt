@@ -55,17 +55,17 @@ pin_of text = option_and_then pin_by (requirement_read text)
 
 -- the requirement of a package argument, where it has a precise version
 abbrev pub arg_pin : List ℕ → Option Pin
-arg_pin word = option_and_then pin_of (spec_requirement word)
+arg_pin arg = option_and_then pin_of (spec_requirement arg)
 
 -- names in byte order, each with its pin, after one more package argument: it takes the place of an earlier
 -- one of its name
 abbrev pub with_package_arg : List (List ℕ × Option Pin) → List ℕ → List (List ℕ × Option Pin)
-with_package_arg pins word = insert_entry (slice_cmp nat_cmp) pins (spec_name word) (arg_pin word)
+with_package_arg pins arg = insert_entry (slice_cmp nat_cmp) pins (spec_name arg) (arg_pin arg)
 
 -- the names that package arguments select, in byte order, each with the pin of its last argument, where that
 -- has one
 abbrev pub pins_of : List (List ℕ) → List (List ℕ × Option Pin)
-pins_of words = fold with_package_arg [] words
+pins_of args = fold with_package_arg [] args
 
 -- the pin of a name, where it has one
 abbrev pub pin_at : List (List ℕ × Option Pin) → List ℕ → Option Pin

@@ -10,8 +10,8 @@ use Rattle.edit_sources.specs.declared.config.Config.{Config}
 use Rattle.edit_version.specs.RustVersions.{numbers_of}
 use Rattle.edit_upgrade.specs.Causes.{IsPassed}
 use Rattle.edit_upgrade.specs.Found.{row_entry_view}
-use Rattle.edit_upgrade.specs.Looked.{AreSteps}
-use Rattle.edit_upgrade.specs.Looks.{CachedAnswers, cached_basis}
+use Rattle.edit_upgrade.specs.LookupSteps.{AreSteps}
+use Rattle.edit_upgrade.specs.Lookups.{CachedAnswers, cached_basis}
 use Rattle.edit_upgrade.specs.PairSets.{holds_pair}
 use Rattle.edit_upgrade.specs.Records.{RowEntry, row_entries}
 use Rattle.edit_upgrade.specs.Rows.{AreDecided, Line}

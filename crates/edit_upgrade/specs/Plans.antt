@@ -8,8 +8,8 @@ use Rattle.edit_upgrade.specs.Headline.{IsSettled, LatestIsNotLess, Narrows, Nee
 use Rattle.edit_upgrade.specs.Inputs.{EachInput, OutputsInOrder, RowsInOrder, WarningsInOrder}
 use Rattle.edit_upgrade.specs.Lines.{line_of}
 use Rattle.edit_upgrade.specs.Lists.{HasRowLists}
-use Rattle.edit_upgrade.specs.LookOrder.{AreInOrder}
-use Rattle.edit_upgrade.specs.Looks.{AreLookups}
+use Rattle.edit_upgrade.specs.LookupOrder.{AreInOrder}
+use Rattle.edit_upgrade.specs.Lookups.{AreLookups}
 use Rattle.edit_upgrade.specs.Missing.{ListsMissing}
 use Rattle.edit_upgrade.specs.Upgraded.{HasItsOutputs, HasItsRows, HasItsWarnings, IsNeeded}
 use Rattle.edit_upgrade.specs.declared.decision.options.Options.{Options}
@@ -18,7 +18,7 @@ use Rattle.edit_upgrade.specs.declared.upgrade.UpgradePlan.{UpgradePlan}
 -- the lookups of a plan: each one that the inputs need and no other, from this cache to that (own)
 abbrev pub HasLookups : List Input → List (Vec Config) → CacheView → CacheView → UpgradePlan → Type 0
 HasLookups inputs configs old new p =
-    AreLookups (IsNeeded inputs configs) old.gives old.kept new.kept p.looks.items
+    AreLookups (IsNeeded inputs configs) old.gives old.cached new.cached p.looks.items
 
 -- the lookups of a plan stand in the order in which the inputs need them (own)
 abbrev pub AreLookupsInOrder : List Input → List (Vec Config) → UpgradePlan → Type 0
@@ -41,6 +41,6 @@ pub record IsPlan (o : Options) (inputs : List Input) (configs : List (Vec Confi
   pub fixed_point : EachInput o inputs configs IsSettled p
   pub needs : EachInput o inputs configs NeedsAsBefore p
   pub missing : ListsMissing o inputs p
-  pub looks : HasLookups inputs configs old new p
-  pub looks_in_order : AreLookupsInOrder inputs configs p
+  pub lookups : HasLookups inputs configs old new p
+  pub lookups_in_order : AreLookupsInOrder inputs configs p
   pub lists : HasRowLists p

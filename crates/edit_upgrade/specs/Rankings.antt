@@ -2,7 +2,7 @@
 use Rattle.std.specs.Prelude.{Option, Some, None}
 use Rattle.edit_cache.specs.Ranking.{IsRanking, ranks_of}
 use Rattle.edit_cache.specs.declared.ranking.Ranked.{Ranked}
-use Rattle.edit_upgrade.specs.Looks.{Answer}
+use Rattle.edit_upgrade.specs.Lookups.{Answer}
 
 -- it is that of the answer's entries; there is none where no answer is cached, or the answer is that there is
 -- no such name (own)

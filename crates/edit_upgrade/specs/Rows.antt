@@ -11,7 +11,7 @@ use Rattle.edit_sources.specs.Configured.{HasAddress}
 use Rattle.edit_sources.specs.declared.config.Config.{Config}
 use Rattle.edit_upgrade.specs.Decision.{Case, Choice, decision, newer, or_else, some_if}
 use Rattle.edit_upgrade.specs.Records.{RowEntry, Source, at_folder, at_registry, at_repository}
-use Rattle.edit_upgrade.specs.Words.{is_excluded, requirement_for}
+use Rattle.edit_upgrade.specs.EntrySelection.{is_excluded, requirement_for}
 use Rattle.edit_report.specs.declared.row.Change.{Change}
 use Rattle.edit_upgrade.specs.declared.decision.options.Options.{Options}
 use Rattle.edit_report.specs.declared.row.Reason.{Reason}
@@ -118,7 +118,7 @@ is_elsewhere at_folder = true
 -- the versions admitted for an entry: those of its name at its registry's address; none for a git or path
 -- dependency
 pub data AreVersionsFor (s : Basis) (e : RowEntry) (versions : List Parts) : Type 0 where
-  told_there : (address : url.Parts) → Needs s.configs e address e.name
+  at_address : (address : url.Parts) → Needs s.configs e address e.name
       → versions ≡ s.versions (serialize address) e.name → AreVersionsFor s e versions
   elsewhere : is_elsewhere e.source ≡ true → versions ≡ [] → AreVersionsFor s e versions
 

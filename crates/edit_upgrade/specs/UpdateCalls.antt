@@ -17,8 +17,8 @@ Call = List (List ℕ)
 
 -- a call for the manifest at a path, with the arguments that select what is updated
 abbrev pub call : List ℕ → List (List ℕ) → Call
-call manifest words =
-    (codes "cargo" ∷ codes "update" ∷ codes "--manifest-path" ∷ manifest ∷ words) ++ codes "--offline" ∷ []
+call manifest args =
+    (codes "cargo" ∷ codes "update" ∷ codes "--manifest-path" ∷ manifest ∷ args) ++ codes "--offline" ∷ []
 
 -- the arguments that name a package: `--package name@version`
 abbrev pub package_args : PackageModel → List (List ℕ)
@@ -83,11 +83,11 @@ unpinned_packages pins modified packages =
 -- updated as well
 abbrev pub recursive_calls : List ℕ → ParsedOptions → List PackageModel → List Call
 recursive_calls manifest a packages = if is_recursive a
-    then aggressive_calls manifest (unpinned_packages (pins_of a.words) a.modified packages) else []
+    then aggressive_calls manifest (unpinned_packages (pins_of a.args) a.modified packages) else []
 
 -- the calls for a manifest: with precise versions, for git dependencies, and for the other modified names
 abbrev pub calls_for : List ℕ → ParsedOptions → List PackageModel → List Call
-calls_for manifest a packages = precise_calls manifest packages (pins_of a.words)
+calls_for manifest a packages = precise_calls manifest packages (pins_of a.args)
     ++ (git_calls manifest a packages ++ recursive_calls manifest a packages)
 
 -- the calls that follow an upgrade in a workspace: none where none are needed

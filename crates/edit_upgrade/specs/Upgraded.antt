@@ -12,7 +12,7 @@ use Rattle.url.specs.Parts.{serialize}
 use Rattle.edit_metadata.specs.Inputs.{path_of}
 use Rattle.edit_upgrade.specs.Inputs.{Setting, outputs_at, rows_of, warnings_of}
 use Rattle.edit_upgrade.specs.Lists.{AreWarnings, WarningView}
-use Rattle.edit_upgrade.specs.Looks.{looked_up_versions}
+use Rattle.edit_upgrade.specs.Lookups.{lookup_versions}
 use Rattle.edit_upgrade.specs.Outputs.{HasOutputs}
 use Rattle.edit_upgrade.specs.Records.{RowEntry, row_entries}
 use Rattle.edit_upgrade.specs.Rows.{Basis, IsRowBy, Line, Needs}
@@ -26,7 +26,7 @@ basis_of s = record {
   input = s.input;
   options = s.options;
   configs = s.configs;
-  versions = looked_up_versions s.rust s.looks;
+  versions = lookup_versions s.rust s.lookups;
 }
 
 -- the row of an entry, over the versions in the lookups made
@@ -77,10 +77,10 @@ HasItsOutputs s input p =
     HasOutputs (path_of input) input.bytes.items (rows_of s.input p) (outputs_at (path_of input) p)
 
 -- the bytes are a manifest, and these are the warnings about its entries
-pub record HasWarnings (o : Options) (input : ℕ) (bytes : List ℕ) (told : List WarningView) : Type 0 where
+pub record HasWarnings (o : Options) (input : ℕ) (bytes : List ℕ) (warnings : List WarningView) : Type 0 where
   pub form : Text
   pub manifest : IsDocument bytes form
-  pub are : AreWarnings o input (entries (view_at form) []) told
+  pub are : AreWarnings o input (entries (view_at form) []) warnings
 
 -- the warnings about an input are those about the entries of its manifest
 abbrev pub HasItsWarnings : Setting → Input → UpgradePlan → Type 0

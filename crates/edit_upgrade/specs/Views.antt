@@ -4,7 +4,7 @@ use Rattle.std.specs.declared.alloc.Global.{Global}
 
 -- the arguments of a call, by their texts
 abbrev pub args_view : List (String Global) → List (List ℕ)
-args_view words = map string_bytes words
+args_view args = map string_bytes args
 
 -- the arguments of each call, by their texts
 abbrev pub calls_view : List (Vec (String Global) Global) → List (List (List ℕ))

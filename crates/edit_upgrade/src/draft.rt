@@ -10,8 +10,8 @@ ghost use Rattle.edit_upgrade.specs.Caches.{LeavesCache, StopsManifest, cache_vi
 ghost use Rattle.edit_upgrade.specs.Drafts.{AddsInput};
 ghost use Rattle.edit_upgrade.specs.Lines.{line_of};
 ghost use Rattle.edit_upgrade.specs.Lists.{HasRowLists, warning_view};
-ghost use Rattle.edit_upgrade.specs.Looked.{AreAllCached};
-ghost use Rattle.edit_upgrade.specs.Looks.{cached_by};
+ghost use Rattle.edit_upgrade.specs.LookupSteps.{AreAllCached};
+ghost use Rattle.edit_upgrade.specs.Lookups.{cached_by};
 ghost use Rattle.edit_upgrade.specs.Missing.{AddsNames};
 ghost use Rattle.edit_upgrade.specs.Outputs.{HasOutputs, IsOnlyOutput};
 ghost use Rattle.edit_upgrade.specs.PairSets.{holds_pair};
@@ -142,10 +142,10 @@ fn add_input<I: Index>(
     requires preserved { AreAllCached (holds_pair draft.old.books.pairs) (cached_by index.old) }
     ensures addresses { OnOk result (AreAddresses addresses.old.configs.now addresses.new) }
     ensures preserved { OnOk result (AreAllCached (holds_pair draft.new.books.pairs) (cached_by index.new)) }
-    ensures adds { OnOk result (AddsInput job.entry.number job.entry.asked.options.now job.entry.input.now
+    ensures adds { OnOk result (AddsInput job.entry.number job.entry.parsed.options.now job.entry.input.now
         addresses.old.configs.now
         (I.view (index_of index.old)).gives (cached_by index.old) (cached_by index.new) draft.old draft.new) }
-    ensures known { OnOk result (AddsNames job.entry.asked.options.now job.entry.input.now.bytes.items
+    ensures known { OnOk result (AddsNames job.entry.parsed.options.now job.entry.input.now.bytes.items
         (contains_text draft.old.known) (contains_text draft.new.known)) }
     ensures left { LeavesCache (IsNeededBy addresses.old.configs.now job.entry.input.now.bytes.items)
         (cache_view I.view index.old) (cache_view I.view index.new) }
@@ -174,10 +174,10 @@ pub(crate) fn add_read<I: Index>(
     requires preserved { AreAllCached (holds_pair draft.old.books.pairs) (cached_by index.old) }
     ensures addresses { OnOk result (AreAddresses addresses.old.configs.now addresses.new) }
     ensures preserved { OnOk result (AreAllCached (holds_pair draft.new.books.pairs) (cached_by index.new)) }
-    ensures adds { OnOk result (AddsInput job.entry.number job.entry.asked.options.now job.entry.input.now
+    ensures adds { OnOk result (AddsInput job.entry.number job.entry.parsed.options.now job.entry.input.now
         addresses.old.configs.now
         (I.view (index_of index.old)).gives (cached_by index.old) (cached_by index.new) draft.old draft.new) }
-    ensures known { OnOk result (AddsNames job.entry.asked.options.now job.entry.input.now.bytes.items
+    ensures known { OnOk result (AddsNames job.entry.parsed.options.now job.entry.input.now.bytes.items
         (contains_text draft.old.known) (contains_text draft.new.known)) }
     ensures utf8 { OnOk result (option_copied document.entry ≡ None
         → IsUtf8 job.entry.input.now.bytes.items) }

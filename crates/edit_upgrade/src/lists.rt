@@ -155,25 +155,25 @@ fn is_left_unparsed(
 /// Whether an entry is left unchanged because its requirement `old` cannot be parsed.
 fn has_unparsed_requirement(
     alloc: Global,
-    asked: ParsedOptions<'_>,
+    parsed: ParsedOptions<'_>,
     dependency: &Dependency,
     old: &str,
 ) -> CargoResult<bool>
     ensures ok { IfOk result (λ b. some_if b (Some old.now)
-        ≡ unparsed_requirement asked.entry.options.now (record_view dependency.now) old.now) }
+        ≡ unparsed_requirement parsed.entry.options.now (record_view dependency.now) old.now) }
     ensures error { IfErr result IsMemory }
 {
     let name = dependency.name.as_str();
     let pin = read_pin(alloc, dependency.rename.is_some(), old)?;
-    let excluded = is_excluded(asked, name);
-    let selected = requirement_for(asked, name);
-    Ok(is_left_unparsed(asked.options, excluded, selected, pin))
+    let excluded = is_excluded(parsed, name);
+    let selected = requirement_for(parsed, name);
+    Ok(is_left_unparsed(parsed.options, excluded, selected, pin))
 }
 
 /// The warning about an entry whose requirement cannot be parsed and is left unchanged.
 fn requirement_warning(
     alloc: Global,
-    asked: ParsedOptions<'_>,
+    parsed: ParsedOptions<'_>,
     input: usize,
     key: &str,
     dependency: &Dependency,
@@ -181,14 +181,14 @@ fn requirement_warning(
 ) -> CargoResult<Option<Warning>>
     ensures ok { IfOk result (λ o. option_map warning_view o
         ≡ option_map (λ old. warning_record input false (unreadable_text key.now old))
-        (option_and_then (unparsed_requirement asked.entry.options.now (record_view dependency.now))
+        (option_and_then (unparsed_requirement parsed.entry.options.now (record_view dependency.now))
         (option_map (λ s. s.now) version.entry))) }
     ensures error { IfErr result IsMemory }
 {
     let Some(old) = version else {
         return Ok(None);
     };
-    if !has_unparsed_requirement(alloc, asked, dependency, old)? {
+    if !has_unparsed_requirement(alloc, parsed, dependency, old)? {
         return Ok(None);
     }
     Ok(Some(Warning {
@@ -201,13 +201,13 @@ fn requirement_warning(
 /// The warning about an entry that was read as a `Dependency`, where there is one.
 fn record_warning(
     alloc: Global,
-    asked: ParsedOptions<'_>,
+    parsed: ParsedOptions<'_>,
     input: usize,
     key: &str,
     dependency: &Dependency,
 ) -> CargoResult<Option<Warning>>
     ensures ok { IfOk result (λ o. option_map warning_view o
-        ≡ warning_by asked.entry.options.now input key.now (record_view dependency.now)
+        ≡ warning_by parsed.entry.options.now input key.now (record_view dependency.now)
         (source_of (record_view dependency.now))) }
     ensures error { IfErr result IsMemory }
 {
@@ -223,7 +223,7 @@ fn record_warning(
             }));
         }
     };
-    requirement_warning(alloc, asked, input, key, dependency, version)
+    requirement_warning(alloc, parsed, input, key, dependency, version)
 }
 
 /// Borrows the text of an option as `&str`.
@@ -239,17 +239,17 @@ fn text_of(text: Option<&String>) -> Option<&str>
 /// The warning about an entry of a dependency table, where there is one.
 fn entry_warning(
     alloc: Global,
-    asked: ParsedOptions<'_>,
+    parsed: ParsedOptions<'_>,
     input: usize,
     entry: &Entry,
 ) -> CargoResult<Option<Warning>>
-    ensures ok { IfOk result (λ o. IsWarningOn asked.entry.options.now input (entry_view entry.now)
+    ensures ok { IfOk result (λ o. IsWarningOn parsed.entry.options.now input (entry_view entry.now)
         (option_map warning_view o)) }
     ensures error { IfErr result IsMemory }
 {
     let key = entry.key.as_str();
     match &entry.said {
-        ReadEntry::Read(dependency) => record_warning(alloc, asked, input, key, dependency),
+        ReadEntry::Read(dependency) => record_warning(alloc, parsed, input, key, dependency),
         ReadEntry::Unsupported(error) => Ok(Some(Warning {
             input,
             verbose: false,
@@ -261,18 +261,18 @@ fn entry_warning(
 /// The warnings about the entries of a manifest, in the order of the entries.
 pub(crate) fn warnings_on(
     alloc: Global,
-    asked: ParsedOptions<'_>,
+    parsed: ParsedOptions<'_>,
     input: usize,
     entries: &[Entry],
 ) -> CargoResult<Vec<Warning>>
-    ensures texts { IfOk result (λ v. AreWarnings asked.entry.options.now input (map entry_view entries.now)
+    ensures texts { IfOk result (λ v. AreWarnings parsed.entry.options.now input (map entry_view entries.now)
         (map warning_view v.items)) }
     ensures error { IfErr result IsMemory }
 {
     let mut warnings = Vec::new(alloc);
     'entries: for entry in entries {
-        let told = entry_warning(alloc, asked, input, entry)?;
-        match told {
+        let found = entry_warning(alloc, parsed, input, entry)?;
+        match found {
             Some(warning) => warnings.push(warning)?,
             None => {}
         }

@@ -5,8 +5,8 @@ ghost use Rattle.edit_base.specs.Errors.{IsMemory};
 ghost use Rattle.edit_sources.specs.Index.{answer_of};
 ghost use Rattle.edit_cache.specs.IndexCache.{index_of};
 ghost use Rattle.url.specs.Parts.{serialize};
-ghost use Rattle.edit_upgrade.specs.Looked.{IsAt, IsLookupMade, IsLookupError, IsStep, Leaves};
-ghost use Rattle.edit_upgrade.specs.Looks.{cached_by};
+ghost use Rattle.edit_upgrade.specs.LookupSteps.{IsAt, IsLookupMade, IsLookupError, IsStep, Leaves};
+ghost use Rattle.edit_upgrade.specs.Lookups.{cached_by};
 ghost use Rattle.edit_upgrade.specs.PairSets.{holds_pair};
 
 use crate::names::{Names, add_name};
@@ -90,7 +90,7 @@ fn perform_lookup<I: Index>(
     name: &str,
     index: &mut IndexCache<I>,
 ) -> CargoResult<Look>
-    ensures look { IfOk result (IsLookupMade (serialize registry.now) name.now (I.view (index_of index.old)).gives
+    ensures lookup { IfOk result (IsLookupMade (serialize registry.now) name.now (I.view (index_of index.old)).gives
         (cached_by index.old) (cached_by index.new)) }
     ensures left { Leaves (IsAt (serialize registry.now) name.now)
         (I.view (index_of index.old)).gives (I.view (index_of index.new)).gives
@@ -133,11 +133,11 @@ pub(crate) fn lookup_once<I: Index>(
     registry: &Url,
     name: &str,
     pairs: &mut PairSet,
-    looks: &mut Vec<Look>,
+    lookups: &mut Vec<Look>,
     index: &mut IndexCache<I>,
 ) -> CargoResult<()>
     ensures step { OnOk result (IsStep (serialize registry.now) name.now (I.view (index_of index.old)).gives
-        (cached_by index.old) (cached_by index.new) looks.old.items looks.new.items
+        (cached_by index.old) (cached_by index.new) lookups.old.items lookups.new.items
         (holds_pair pairs.old) (holds_pair pairs.new)) }
     ensures left { Leaves (IsAt (serialize registry.now) name.now)
         (I.view (index_of index.old)).gives (I.view (index_of index.new)).gives
@@ -152,7 +152,7 @@ pub(crate) fn lookup_once<I: Index>(
     if had {
         return Ok(());
     }
-    let look = perform_lookup(alloc, registry, name, index)?;
-    looks.push(look)?;
+    let lookup = perform_lookup(alloc, registry, name, index)?;
+    lookups.push(lookup)?;
     Ok(())
 }

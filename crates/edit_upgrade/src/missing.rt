@@ -6,7 +6,7 @@ ghost use Rattle.std.specs.Str.{bytes_eq};
 ghost use Rattle.edit_base.specs.declared.errors.Error.TheVariants as error;
 ghost use Rattle.edit_manifest.specs.EntryViews.{entry_view};
 ghost use Rattle.edit_upgrade.specs.Missing.{names_in};
-ghost use Rattle.edit_upgrade.specs.Words.{is_named, package_args_of};
+ghost use Rattle.edit_upgrade.specs.EntrySelection.{is_named, package_args_of};
 
 use crate::names::{Names, add_name};
 use crate::parsed_options::{ParsedOptions, is_named};
@@ -17,19 +17,19 @@ use std::alloc::{AllocError, Global};
 /// Adds the name of an entry to the set of known names, where a `--package` argument selects it.
 fn add_entry(
     alloc: Global,
-    asked: ParsedOptions<'_>,
+    parsed: ParsedOptions<'_>,
     entry: &Entry,
     known: &mut Names,
 ) -> Result<(), AllocError>
     ensures ok { OnOk result ((name : List ℕ) → contains_text known.new name
-        ≡ (contains_text known.old name || (is_named (package_args_of asked.entry.options.now) name
+        ≡ (contains_text known.old name || (is_named (package_args_of parsed.entry.options.now) name
         && list_any (bytes_eq name) (names_in (entry_view entry.now ∷ []))))) }
 {
     let ReadEntry::Read(dependency) = &entry.said else {
         return Ok(());
     };
     let name = dependency.name.as_str();
-    if is_named(asked, name) {
+    if is_named(parsed, name) {
         add_name(alloc, known, name)?;
     }
     Ok(())
@@ -38,16 +38,16 @@ fn add_entry(
 /// Adds the names of the entries that `--package` arguments select to the set of known names.
 pub(crate) fn add_names(
     alloc: Global,
-    asked: ParsedOptions<'_>,
+    parsed: ParsedOptions<'_>,
     found: &[Entry],
     known: &mut Names,
 ) -> Result<(), AllocError>
     ensures ok { OnOk result ((name : List ℕ) → contains_text known.new name
-        ≡ (contains_text known.old name || (is_named (package_args_of asked.entry.options.now) name
+        ≡ (contains_text known.old name || (is_named (package_args_of parsed.entry.options.now) name
         && list_any (bytes_eq name) (names_in (map entry_view found.now))))) }
 {
     'found: for entry in found {
-        add_entry(alloc, asked, entry, known)?;
+        add_entry(alloc, parsed, entry, known)?;
     }
     Ok(())
 }

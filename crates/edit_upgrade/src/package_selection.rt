@@ -6,7 +6,7 @@ ghost use Rattle.std.specs.Str.{bytes_eq};
 ghost use Rattle.edit_base.specs.Errors.{IsMemory};
 ghost use Rattle.edit_version.specs.CrateSpecs.{IsInvalidSpec};
 ghost use Rattle.edit_upgrade.specs.PackageSelection.{AddsPackageArg, IsPackageSelection, ArePackageArgs, has_name, last_requirement};
-ghost use Rattle.edit_upgrade.specs.WordCauses.{IsOptionCause, FailsAtPackageArg};
+ghost use Rattle.edit_upgrade.specs.OptionCauses.{IsOptionCause, FailsAtPackageArg};
 
 use crate::decision::options::Options;
 use crate::names::{Names, add_name};
@@ -27,64 +27,64 @@ pub(crate) struct PackageArgs {
 /// The selection by name: the parsed `--package` arguments and the excluded names.
 #[derive(Drop)]
 pub(crate) struct PackageSelection {
-    pub(crate) words: PackageArgs,
+    pub(crate) args: PackageArgs,
     pub(crate) excluded: Names,
 }
 
 /// Whether a `--package` argument selects this name.
-pub(crate) fn has_name(words: &PackageArgs, name: &str) -> bool
-    ensures { result ≡ has_name words.now name.now }
+pub(crate) fn has_name(args: &PackageArgs, name: &str) -> bool
+    ensures { result ≡ has_name args.now name.now }
 {
-    words.requirements.contains_key(name)
+    args.requirements.contains_key(name)
 }
 
 /// The requirement that the last `--package` argument of this name gives.
-pub(crate) fn last_requirement<'a>(words: &'a PackageArgs, name: &str) -> Option<&'a str>
-    ensures { option_copied result ≡ last_requirement words.now name.now }
+pub(crate) fn last_requirement<'a>(args: &'a PackageArgs, name: &str) -> Option<&'a str>
+    ensures { option_copied result ≡ last_requirement args.now name.now }
 {
-    match words.requirements.get(name) {
+    match args.requirements.get(name) {
         Some(Some(req)) => Some(req.as_str()),
         Some(None) | None => None,
     }
 }
 
 /// Appends a name, unless it is in the list.
-fn add_first(alloc: Global, words: &mut PackageArgs, name: &str) -> Result<(), AllocError>
-    ensures names { OnOk result (map string_bytes words.new.names.items
-        ≡ map string_bytes words.old.names.items
-        ++ (if has_name words.old name.now then [] else name.now ∷ [])) }
-    ensures requirements { words.new.requirements ≡ words.old.requirements }
+fn add_first(alloc: Global, args: &mut PackageArgs, name: &str) -> Result<(), AllocError>
+    ensures names { OnOk result (map string_bytes args.new.names.items
+        ≡ map string_bytes args.old.names.items
+        ++ (if has_name args.old name.now then [] else name.now ∷ [])) }
+    ensures requirements { args.new.requirements ≡ args.old.requirements }
 {
-    if has_name(words, name) {
+    if has_name(args, name) {
         return Ok(());
     }
     let name = String::from_str(alloc, name)?;
-    words.names.push(name)?;
+    args.names.push(name)?;
     Ok(())
 }
 
 /// Parses one more `--package` argument.
-fn add_package_arg(alloc: Global, words: &mut PackageArgs, word: &str) -> CargoResult<()>
-    ensures ok { OnOk result (AddsPackageArg word.now words.old words.new) }
-    ensures error { IfErr result (IsInvalidSpec word.now) }
+fn add_package_arg(alloc: Global, args: &mut PackageArgs, arg: &str) -> CargoResult<()>
+    ensures ok { OnOk result (AddsPackageArg arg.now args.old args.new) }
+    ensures error { IfErr result (IsInvalidSpec arg.now) }
 {
-    let CrateSpec { name, version_req } = CrateSpec::resolve(alloc, word)?;
-    add_first(alloc, words, name.as_str())?;
-    words.requirements.insert(name, version_req)?;
+    let CrateSpec { name, version_req } = CrateSpec::resolve(alloc, arg)?;
+    add_first(alloc, args, name.as_str())?;
+    args.requirements.insert(name, version_req)?;
     Ok(())
 }
 
 /// Parses `--package` arguments, in their order.
-fn parse_package_args(alloc: Global, words: &[String]) -> CargoResult<PackageArgs>
-    ensures ok { IfOk result (ArePackageArgs (map string_bytes words.now)) }
-    ensures error { IfErr result (FailsAtPackageArg (map string_bytes words.now)) }
+fn parse_package_args(alloc: Global, args: &[String]) -> CargoResult<PackageArgs>
+    ensures ok { IfOk result (ArePackageArgs (map string_bytes args.now)) }
+    ensures error { IfErr result (FailsAtPackageArg (map string_bytes args.now)) }
 {
     let mut read = PackageArgs {
         names: Vec::new(alloc),
         requirements: BTreeMap::new(alloc),
     };
-    'words: for word in words {
-        add_package_arg(alloc, &mut read, word.as_str())?;
+    'each_arg: for arg in args {
+        add_package_arg(alloc, &mut read, arg.as_str())?;
     }
     Ok(read)
 }
@@ -107,7 +107,7 @@ pub(crate) fn parse_selection(alloc: Global, options: &Options) -> CargoResult<P
     ensures ok { IfOk result (IsPackageSelection options.now) }
     ensures error { IfErr result (IsOptionCause options.now) }
 {
-    let words = parse_package_args(alloc, &options.package)?;
+    let args = parse_package_args(alloc, &options.package)?;
     let excluded = name_set(alloc, &options.exclude)?;
-    Ok(PackageSelection { words, excluded })
+    Ok(PackageSelection { args, excluded })
 }

@@ -4,7 +4,7 @@ ghost use Rattle.std.specs.BTreeSet.{contains_text};
 ghost use Rattle.std.specs.List.{list_any};
 ghost use Rattle.std.specs.Str.{bytes_eq};
 ghost use Rattle.edit_upgrade.specs.PackageSelection.{has_name, last_requirement};
-ghost use Rattle.edit_upgrade.specs.Words.{excluded_of, is_excluded, is_named, requirement_for, package_args_of};
+ghost use Rattle.edit_upgrade.specs.EntrySelection.{excluded_of, is_excluded, is_named, requirement_for, package_args_of};
 
 use crate::decision::options::Options;
 use crate::package_selection::{PackageSelection, has_name, last_requirement};
@@ -14,33 +14,33 @@ use crate::package_selection::{PackageSelection, has_name, last_requirement};
 pub(crate) struct ParsedOptions<'a> {
     pub(crate) options: &'a Options,
     pub(crate) picks: &'a PackageSelection,
-    ghost named: { (n : List ℕ) → has_name picks.now.words n ≡ is_named (package_args_of options.now) n },
-    ghost given: { (n : List ℕ) → last_requirement picks.now.words n ≡ requirement_for options.now n },
+    ghost named: { (n : List ℕ) → has_name picks.now.args n ≡ is_named (package_args_of options.now) n },
+    ghost given: { (n : List ℕ) → last_requirement picks.now.args n ≡ requirement_for options.now n },
     ghost excluded: { (n : List ℕ)
         → contains_text picks.now.excluded n ≡ list_any (bytes_eq n) (excluded_of options.now) },
 }
 
 /// Whether a `--package` argument selects entries of this name.
-pub(crate) fn is_named(asked: ParsedOptions<'_>, name: &str) -> bool
-    ensures { result ≡ is_named (package_args_of asked.entry.options.now) name.now }
+pub(crate) fn is_named(parsed: ParsedOptions<'_>, name: &str) -> bool
+    ensures { result ≡ is_named (package_args_of parsed.entry.options.now) name.now }
 {
-    has_name(&asked.picks.words, name)
+    has_name(&parsed.picks.args, name)
 }
 
 /// Whether entries of this name are excluded, by `--exclude` or because no `--package` argument selects
 /// them.
-pub(crate) fn is_excluded(asked: ParsedOptions<'_>, name: &str) -> bool
-    ensures { result ≡ is_excluded asked.entry.options.now name.now }
+pub(crate) fn is_excluded(parsed: ParsedOptions<'_>, name: &str) -> bool
+    ensures { result ≡ is_excluded parsed.entry.options.now name.now }
 {
-    if !asked.options.package.is_empty() && !is_named(asked, name) {
+    if !parsed.options.package.is_empty() && !is_named(parsed, name) {
         return true;
     }
-    asked.picks.excluded.contains(name)
+    parsed.picks.excluded.contains(name)
 }
 
 /// The requirement that the `--package` arguments give for this name.
-pub(crate) fn requirement_for<'a>(asked: ParsedOptions<'a>, name: &str) -> Option<&'a str>
-    ensures { option_copied result ≡ requirement_for asked.entry.options.now name.now }
+pub(crate) fn requirement_for<'a>(parsed: ParsedOptions<'a>, name: &str) -> Option<&'a str>
+    ensures { option_copied result ≡ requirement_for parsed.entry.options.now name.now }
 {
-    last_requirement(&asked.picks.words, name)
+    last_requirement(&parsed.picks.args, name)
 }

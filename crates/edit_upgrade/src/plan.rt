@@ -11,10 +11,10 @@ ghost use Rattle.edit_metadata.specs.Inputs.{HaveOwnPaths};
 ghost use Rattle.edit_upgrade.specs.Inputs.{EachInput, OutputsInOrder, RowsInOrder, WarningsInOrder};
 ghost use Rattle.edit_upgrade.specs.Lines.{line_of};
 ghost use Rattle.edit_upgrade.specs.Lists.{HasRowLists};
-ghost use Rattle.edit_upgrade.specs.Looks.{AddsNeeded, cached_by};
+ghost use Rattle.edit_upgrade.specs.Lookups.{AddsNeeded, cached_by};
 ghost use Rattle.edit_upgrade.specs.Missing.{AreKnown, ListsMissing};
 ghost use Rattle.edit_upgrade.specs.Plans.{HasLookups, IsPlan, AreLookupsInOrder};
-ghost use Rattle.edit_upgrade.specs.WordCauses.{IsPlanError};
+ghost use Rattle.edit_upgrade.specs.OptionCauses.{IsPlanError};
 ghost use Rattle.edit_upgrade.specs.Upgraded.{HasItsOutputs, HasItsRows, HasItsWarnings, IsNeeded};
 
 use crate::address_caches::{AddressCaches, keep_addresses, take_addresses};
@@ -44,7 +44,7 @@ fn document_at(documents: &[Document], i: usize) -> Option<&Document>
 /// parsed from their bytes.
 fn plan_each_input<I: Index>(
     alloc: Global,
-    asked: ParsedOptions<'_>,
+    parsed: ParsedOptions<'_>,
     inputs: &[Input],
     documents: &[Document],
     configs: ConfigLists<'_>,
@@ -54,10 +54,10 @@ fn plan_each_input<I: Index>(
     requires configurations { length (lists_in configs) ≡ length inputs.now }
     requires lists { HasLists configs }
     requires paths { HaveOwnPaths inputs.now }
-    ensures inputs { IfOk result (IsDraft asked.entry.options.now inputs.now (lists_in configs.entry)
+    ensures inputs { IfOk result (IsDraft parsed.entry.options.now inputs.now (lists_in configs.entry)
         (I.view (index_of index.old)).gives
         (cached_by index.old) (cached_by index.new)) }
-    ensures known { IfOk result (λ d. AreKnown asked.entry.options.now inputs.now (contains_text d.known)) }
+    ensures known { IfOk result (λ d. AreKnown parsed.entry.options.now inputs.now (contains_text d.known)) }
     ensures utf8 { OnOk result (documents.now ≡ [] → All (λ x. IsUtf8 x.bytes.items) inputs.now) }
     ensures left { LeavesCache (IsNeeded inputs.now (lists_in configs.entry))
         (cache_view I.view index.old) (cache_view I.view index.new) }
@@ -77,7 +77,7 @@ fn plan_each_input<I: Index>(
         let job = Job {
             number: i,
             input,
-            asked,
+            parsed,
         };
         add_read(alloc, job, document, &mut addresses, &mut draft, index)?;
         keep_addresses(configs, list, addresses, &mut caches)?;
@@ -111,12 +111,12 @@ fn plan_all<I: Index>(
         (cache_view I.view index.old) (cache_view I.view index.new)) e) }
 {
     let picks = parse_selection(alloc, options)?;
-    let asked = ParsedOptions {
+    let parsed = ParsedOptions {
         options,
         picks: &picks,
     };
-    let draft = plan_each_input(alloc, asked, inputs, documents, configs, index)?;
-    let missing = unknown_names(alloc, &picks.words.names, &draft.known)?;
+    let draft = plan_each_input(alloc, parsed, inputs, documents, configs, index)?;
+    let missing = unknown_names(alloc, &picks.args.names, &draft.known)?;
     let plan = finish_plan(alloc, draft, missing)?;
     Ok(plan)
 }
@@ -231,10 +231,10 @@ pub fn plan_upgrade<I: Index>(
     // the names that `--package` arguments select and that no entry of an input has
     ensures missing { IfOk result (ListsMissing options.now inputs.now) }
     // each lookup that is needed, and no other
-    ensures looks { IfOk result (HasLookups inputs.now configs.now
+    ensures lookups { IfOk result (HasLookups inputs.now configs.now
         (cache_view I.view index.old) (cache_view I.view index.new)) }
     // in the order of the inputs and of their entries, each at the first entry that needs it
-    ensures looks_in_order { IfOk result (AreLookupsInOrder inputs.now configs.now) }
+    ensures lookups_in_order { IfOk result (AreLookupsInOrder inputs.now configs.now) }
     ensures lists { IfOk result HasRowLists }
     // also on an error the cache gains only answers that the plan needs, as the index gives them
     ensures preserved { AddsNeeded (IsNeeded inputs.now configs.now) (I.view (index_of index.old)).gives

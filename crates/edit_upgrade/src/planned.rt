@@ -7,8 +7,8 @@ ghost use Rattle.edit_upgrade.specs.Addresses.{AreAddresses};
 ghost use Rattle.edit_upgrade.specs.Caches.{LeavesCache, StopsManifest, cache_view};
 ghost use Rattle.edit_upgrade.specs.Lines.{line_of};
 ghost use Rattle.edit_upgrade.specs.Lists.{warning_view};
-ghost use Rattle.edit_upgrade.specs.Looked.{AreAllCached};
-ghost use Rattle.edit_upgrade.specs.Looks.{cached_by};
+ghost use Rattle.edit_upgrade.specs.LookupSteps.{AreAllCached};
+ghost use Rattle.edit_upgrade.specs.Lookups.{cached_by};
 ghost use Rattle.edit_upgrade.specs.Missing.{AddsNames};
 ghost use Rattle.edit_upgrade.specs.PairSets.{holds_pair};
 ghost use Rattle.edit_upgrade.specs.PlannedView.{IsPlannedView, IsWalked};
@@ -55,12 +55,12 @@ pub(crate) fn plan_input<I: Index>(
     ensures preserved { OnOk result (AreAllCached (holds_pair books.new.pairs) (cached_by index.new)) }
     ensures shown { IfOk result (IsPlannedView job.entry.input.now.bytes.items document.now) }
     ensures walked { IfOk result
-        (λ p. IsWalked job.entry.number job.entry.asked.options.now job.entry.input.now
+        (λ p. IsWalked job.entry.number job.entry.parsed.options.now job.entry.input.now
         addresses.old.configs.now (I.view (index_of index.old)).gives (cached_by index.old) (cached_by index.new)
         books.old books.new (map line_of p.rows.items)) }
-    ensures warnings { IfOk result (λ p. HasWarnings job.entry.asked.options.now job.entry.number
+    ensures warnings { IfOk result (λ p. HasWarnings job.entry.parsed.options.now job.entry.number
         job.entry.input.now.bytes.items (map warning_view p.warnings.items)) }
-    ensures known { OnOk result (AddsNames job.entry.asked.options.now job.entry.input.now.bytes.items
+    ensures known { OnOk result (AddsNames job.entry.parsed.options.now job.entry.input.now.bytes.items
         (contains_text known.old) (contains_text known.new)) }
     ensures left { LeavesCache (IsNeededBy addresses.old.configs.now job.entry.input.now.bytes.items)
         (cache_view I.view index.old) (cache_view I.view index.new) }
@@ -71,8 +71,8 @@ pub(crate) fn plan_input<I: Index>(
     document.lemma_form();
     // the base folder is empty since no row shows the folder of a path dependency
     let found = entries(alloc, "", document)?;
-    let warnings = warnings_on(alloc, job.asked, job.number, &found)?;
-    add_names(alloc, job.asked, &found, known)?;
+    let warnings = warnings_on(alloc, job.parsed, job.number, &found)?;
+    add_names(alloc, job.parsed, &found, known)?;
     let entries = with_rows(alloc, found)?;
     let rows = walk(alloc, job, &entries, addresses, books, index)?;
     Ok(Planned {

@@ -10,7 +10,7 @@ ghost use Rattle.url.specs.Parts.{serialize};
 ghost use Rattle.edit_upgrade.specs.Decision.{decision, newer, or_else};
 ghost use Rattle.edit_upgrade.specs.Found.{row_entry_view, source_view};
 ghost use Rattle.edit_upgrade.specs.Lines.{line_of};
-ghost use Rattle.edit_upgrade.specs.Looks.{Answer, cached_by, versions_in};
+ghost use Rattle.edit_upgrade.specs.Lookups.{Answer, cached_by, versions_in};
 ghost use Rattle.edit_upgrade.specs.Offers.{offered_version};
 ghost use Rattle.edit_upgrade.specs.Rankings.{IsRankingOf};
 ghost use Rattle.edit_upgrade.specs.Rows.{IsDecided, IsRowOver, case_for, dash_reason, dashes, line_for};
@@ -38,7 +38,7 @@ pub(crate) struct Job<'a> {
     /// The index of the input, from 0.
     pub(crate) number: usize,
     pub(crate) input: &'a Input,
-    pub(crate) asked: ParsedOptions<'a>,
+    pub(crate) parsed: ParsedOptions<'a>,
 }
 
 /// The greatest version that a requirement admits, and the latest version. Pre-releases are considered
@@ -113,15 +113,15 @@ fn row_over(
     ensures ok { IfOk result (λ r. line_of r ≡ line_for job.entry.number (row_entry_view entry.now)
         (text_in old.now)
         (parts_in compatible.entry) (parts_in latest.entry)
-        (decision job.entry.asked.options.now (case_for job.entry.asked.options.now
+        (decision job.entry.parsed.options.now (case_for job.entry.parsed.options.now
         (row_entry_view entry.now) (text_in old.now) (parts_in compatible.entry) (parts_in latest.entry)))) }
     ensures error { IfErr result IsMemory }
 {
     let near = offer_of(alloc, compatible)?;
     let far = offer_of(alloc, latest)?;
     let renamed = entry.rename.is_some();
-    let excluded = is_excluded(job.asked, entry.name.as_str());
-    let selected = requirement_for(job.asked, entry.name.as_str());
+    let excluded = is_excluded(job.parsed, entry.name.as_str());
+    let selected = requirement_for(job.parsed, entry.name.as_str());
     let case = EntryCase {
         excluded,
         renamed,
@@ -129,7 +129,7 @@ fn row_over(
         compatible: near.as_ref(),
         latest: far.as_ref(),
     };
-    let decided = decide(alloc, job.asked.options, case, old)?;
+    let decided = decide(alloc, job.parsed.options, case, old)?;
     let latest = latest_text(alloc, near.as_ref(), far)?;
     Ok(Row {
         input: job.number,
@@ -154,7 +154,7 @@ fn row_with(
     ranked: Option<&Ranked>,
 ) -> CargoResult<Row>
     ensures ok { IfOk result (λ r. (answer : Option Answer) → IsRankingOf answer (option_copied ranked.entry)
-        → IsDecided job.entry.number job.entry.asked.options.now
+        → IsDecided job.entry.number job.entry.parsed.options.now
         (versions_in (numbers_in job.entry.input.now.rust_version) answer)
         (row_entry_view entry.now) (text_in old.now) (line_of r)) }
     ensures error { IfErr result IsMemory }
@@ -180,10 +180,10 @@ fn dash_reason(excluded: bool, source: &Source) -> Reason
 /// The row of an entry without a requirement.
 fn dash_row(alloc: Global, job: Job<'_>, entry: &Entry) -> CargoResult<Row>
     ensures ok { IfOk result (λ r. line_of r
-        ≡ dashes job.entry.number job.entry.asked.options.now (row_entry_view entry.now)) }
+        ≡ dashes job.entry.number job.entry.parsed.options.now (row_entry_view entry.now)) }
     ensures error { IfErr result IsMemory }
 {
-    let excluded = is_excluded(job.asked, entry.name.as_str());
+    let excluded = is_excluded(job.parsed, entry.name.as_str());
     Ok(Row {
         input: job.number,
         name: String::from_str(alloc, entry.name.as_str())?,
@@ -206,7 +206,7 @@ pub(crate) fn row_for(
     ranked: Option<&Ranked>,
 ) -> CargoResult<Row>
     ensures ok { IfOk result (λ r. (answer : Option Answer) → IsRankingOf answer (option_copied ranked.entry)
-        → IsRowOver job.entry.number job.entry.asked.options.now
+        → IsRowOver job.entry.number job.entry.parsed.options.now
         (versions_in (numbers_in job.entry.input.now.rust_version) answer)
         (row_entry_view entry.now) (row_entry_view entry.now).old (line_of r)) }
     ensures error { IfErr result IsMemory }
@@ -230,7 +230,7 @@ fn cached_requirement_row<I: Index>(
     old: &str,
     index: &mut IndexCache<I>,
 ) -> CargoResult<Row>
-    ensures ok { IfOk result (λ r. IsDecided job.entry.number job.entry.asked.options.now
+    ensures ok { IfOk result (λ r. IsDecided job.entry.number job.entry.parsed.options.now
         (versions_in (numbers_in job.entry.input.now.rust_version)
         (cached_by index.new (serialize registry.now) (row_entry_view entry.now).name))
         (row_entry_view entry.now) old.now (line_of r)) }
@@ -253,7 +253,7 @@ pub(crate) fn cached_row<I: Index>(
     entry: &Entry,
     index: &mut IndexCache<I>,
 ) -> CargoResult<Row>
-    ensures ok { IfOk result (λ r. IsRowOver job.entry.number job.entry.asked.options.now
+    ensures ok { IfOk result (λ r. IsRowOver job.entry.number job.entry.parsed.options.now
         (versions_in (numbers_in job.entry.input.now.rust_version)
         (cached_by index.new (serialize registry.now) (row_entry_view entry.now).name))
         (row_entry_view entry.now) (row_entry_view entry.now).old (line_of r)) }

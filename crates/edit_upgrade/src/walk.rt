@@ -10,8 +10,8 @@ ghost use Rattle.edit_upgrade.specs.Caches.{LeavesCache, cache_view};
 ghost use Rattle.edit_upgrade.specs.Causes.{IsPassed, StopsAt, StopsFirst};
 ghost use Rattle.edit_upgrade.specs.Found.{row_entry_view};
 ghost use Rattle.edit_upgrade.specs.Lines.{line_of};
-ghost use Rattle.edit_upgrade.specs.Looked.{AreAllCached, AreSteps, IsEntryStep};
-ghost use Rattle.edit_upgrade.specs.Looks.{cached_basis, cached_by};
+ghost use Rattle.edit_upgrade.specs.LookupSteps.{AreAllCached, AreSteps, IsEntryStep};
+ghost use Rattle.edit_upgrade.specs.Lookups.{cached_basis, cached_by};
 ghost use Rattle.edit_upgrade.specs.PairSets.{holds_pair};
 ghost use Rattle.edit_upgrade.specs.Records.{at_registry};
 ghost use Rattle.edit_upgrade.specs.Rows.{AreDecided, IsRowBy};
@@ -52,7 +52,7 @@ fn registry_row<I: Index>(
         (I.view (index_of index.old)).gives (cached_by index.old) (cached_by index.new)
         books.old.looks.items books.new.looks.items
         (holds_pair books.old.pairs) (holds_pair books.new.pairs)) }
-    ensures row { IfOk result (λ r. IsRowBy (cached_basis job.entry.number job.entry.asked.options.now
+    ensures row { IfOk result (λ r. IsRowBy (cached_basis job.entry.number job.entry.parsed.options.now
         (numbers_in job.entry.input.now.rust_version) addresses.old.configs.now (cached_by index.new))
         (row_entry_view entry.now) (line_of r)) }
     ensures left { LeavesCache (IsNeededFor addresses.old.configs.now (row_entry_view entry.now))
@@ -86,7 +86,7 @@ fn entry_row<I: Index>(
         (I.view (index_of index.old)).gives (cached_by index.old) (cached_by index.new)
         books.old.looks.items books.new.looks.items
         (holds_pair books.old.pairs) (holds_pair books.new.pairs)) }
-    ensures row { IfOk result (λ r. IsRowBy (cached_basis job.entry.number job.entry.asked.options.now
+    ensures row { IfOk result (λ r. IsRowBy (cached_basis job.entry.number job.entry.parsed.options.now
         (numbers_in job.entry.input.now.rust_version) addresses.old.configs.now (cached_by index.new))
         (row_entry_view entry.now) (line_of r)) }
     ensures left { LeavesCache (IsNeededFor addresses.old.configs.now (row_entry_view entry.now))
@@ -135,7 +135,7 @@ pub(crate) fn walk<I: Index>(
         (holds_pair books.old.pairs) (holds_pair books.new.pairs)) }
     ensures passed { OnOk result
         (All (IsPassed addresses.old.configs.now (cached_by index.new)) (map row_entry_view entries.now)) }
-    ensures rows { IfOk result (λ v. AreDecided (cached_basis job.entry.number job.entry.asked.options.now
+    ensures rows { IfOk result (λ v. AreDecided (cached_basis job.entry.number job.entry.parsed.options.now
         (numbers_in job.entry.input.now.rust_version) addresses.old.configs.now (cached_by index.new))
         (map row_entry_view entries.now) (map line_of v.items)) }
     ensures left { LeavesCache (IsNeededIn addresses.old.configs.now (map row_entry_view entries.now))

@@ -167,7 +167,7 @@ led-reads old c cs w all le =
     elim (cases_Bool (starts_with_caret old)) [
       | inl same ↦ rw same (reads-all c cs w all le)
       | inr other ↦ rw other (elim (without-of c.0 c.1 rest (more_text cs) w.major) [
-        | inl kept ↦ ap (λ (x : List ℕ). req_of x) kept ∙ reads-all c cs w all le
+        | inl unchanged ↦ ap (λ (x : List ℕ). req_of x) unchanged ∙ reads-all c cs w all le
         | inr gone ↦ ap (λ (x : List ℕ). req_of x) gone.1 ∙ reads-unsigned-all c cs w gone.0 all le
       ])
     ]

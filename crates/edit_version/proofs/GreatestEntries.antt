@@ -8,14 +8,14 @@ use Rattle.std.specs.declared.cmp.Ordering.TheVariants.{Less}
 use Rattle.std.proofs.lemmas.Bool.{cases_Bool}
 use Rattle.semver.specs.Parse.{Parts}
 use Rattle.edit_version.specs.Admissible.{admissible, admissible_in, entry_order, if_passes, is_qualifying, version_in}
-use Rattle.edit_version.specs.Greatest.{IsGreatest, IsGreatestKept}
+use Rattle.edit_version.specs.Greatest.{IsGreatest, IsGreatestItem}
 use Rattle.edit_version.specs.IndexEntry.{IndexEntry}
 use Rattle.edit_version.specs.RustVersions.{Numbers}
 use Rattle.std.proofs.lemmas.List.Elements.{All-cons, All-head, All-nil, All-tail, filter_map-append}
 use Rattle.semver.specs.Grammar.{IsValid}
 use Rattle.semver.proofs.Grammar.{version_parts-sound}
 use Rattle.edit_version.specs.VersionOrder.{full_order}
-use Rattle.edit_version.proofs.Kept.{admissible-version, read-parts}
+use Rattle.edit_version.proofs.QualifyingEntries.{admissible-version, read-parts}
 use Rattle.edit_version.proofs.Orders.{full_total}
 
 -- the order of entries is total
@@ -32,10 +32,10 @@ weaker-passes test wide more (Some v) h = elim (cases_Bool (test v)) [
 ]
 
 -- what a test keeps, a weaker test keeps
-pub kept-weaker : (rust : Option Numbers) (test wide : Parts → Bool)
+pub qualifies-weaker : (rust : Option Numbers) (test wide : Parts → Bool)
     → ((v : Parts) → test v ≡ true → wide v ≡ true) → (e : IndexEntry)
     → is_qualifying rust test e ≡ true → is_qualifying rust wide e ≡ true
-kept-weaker rust test wide more e h = weaker-passes test wide more (admissible rust e) h
+qualifies-weaker rust test wide more e h = weaker-passes test wide more (admissible rust e) h
 
 one-more : {X Y : Type 0} (P : X → Type 0) (Q : Y → Type 0) (f : X → Option Y)
     → ((x : X) (y : Y) → f x ≡ Some y → P x → Q y)
@@ -74,30 +74,30 @@ at-read : (rust : Option Numbers) (x e : IndexEntry) (u v : Parts) → admissibl
     → entry_order x e ≡ full_order u v
 at-read rust x e u v h g = rw (admissible-version rust x u h, admissible-version rust e v g) refl
 
-kept-true : (rust : Option Numbers) (test : Parts → Bool) (e : IndexEntry) (v : Parts)
+qualifies-true : (rust : Option Numbers) (test : Parts → Bool) (e : IndexEntry) (v : Parts)
     → admissible rust e ≡ Some v → test v ≡ true → is_qualifying rust test e ≡ true
-kept-true rust test e v h t = rw (h, t) refl
+qualifies-true rust test e v h t = rw (h, t) refl
 
-kept-false : (rust : Option Numbers) (test : Parts → Bool) (e : IndexEntry) (v : Parts)
+qualifies-false : (rust : Option Numbers) (test : Parts → Bool) (e : IndexEntry) (v : Parts)
     → admissible rust e ≡ Some v → is_qualifying rust test e ≡ false → test v ≡ false
-kept-false rust test e v h f = elim (cases_Bool (test v)) [
-  | inl holds ↦ cc (sym (kept-true rust test e v h holds) ∙ f)
+qualifies-false rust test e v h f = elim (cases_Bool (test v)) [
+  | inl holds ↦ cc (sym (qualifies-true rust test e v h holds) ∙ f)
   | inr fails ↦ fails
 ]
 
-kept-some : (test : Parts → Bool) (o : Option Parts) → is_some (if_passes test o) ≡ true → (v : Parts)
+qualifies-some : (test : Parts → Bool) (o : Option Parts) → is_some (if_passes test o) ≡ true → (v : Parts)
     × (o ≡ Some v) × (test v ≡ true)
-kept-some test None h = cc h
-kept-some test (Some v) h = elim (cases_Bool (test v)) [
+qualifies-some test None h = cc h
+qualifies-some test (Some v) h = elim (cases_Bool (test v)) [
   | inl holds ↦ (v, refl, holds)
   | inr fails ↦ cc (rw fails at h)
 ]
 
 -- the version of a kept entry
-pub kept-has : (rust : Option Numbers) (test : Parts → Bool) (e : IndexEntry)
+pub qualifies-has : (rust : Option Numbers) (test : Parts → Bool) (e : IndexEntry)
     → is_qualifying rust test e ≡ true
     → (v : Parts) × (admissible rust e ≡ Some v) × (test v ≡ true)
-kept-has rust test e h = kept-some test (admissible rust e) h
+qualifies-has rust test e h = qualifies-some test (admissible rust e) h
 
 -- where no entry is kept, none of the versions passes the test
 pub none-versions : (rust : Option Numbers) (test : Parts → Bool) (entries : List IndexEntry)
@@ -105,16 +105,16 @@ pub none-versions : (rust : Option Numbers) (test : Parts → Bool) (entries : L
     → IsGreatest test full_order (admissible_in rust entries) None
 none-versions rust test entries h =
     All-filter_map (λ e. is_qualifying rust test e ≡ false) (λ v. test v ≡ false) (admissible rust)
-    (λ e v a f. kept-false rust test e v a f) entries h
+    (λ e v a f. qualifies-false rust test e v a f) entries h
 
 -- the version of the greatest entry is the greatest of the versions
 pub greatest-versions : (rust : Option Numbers) (test : Parts → Bool) (entries : List IndexEntry)
     (e : IndexEntry)
-    → IsGreatestKept (is_qualifying rust test) entry_order entries e
+    → IsGreatestItem (is_qualifying rust test) entry_order entries e
     → (v : Parts) × (admissible rust e ≡ Some v)
-    × IsGreatestKept test full_order (admissible_in rust entries) v
+    × IsGreatestItem test full_order (admissible_in rust entries) v
 greatest-versions rust test entries e h =
-    let k = kept-has rust test e h.kept in
+    let k = qualifies-has rust test e h.qualifies in
     let whole : admissible_in rust entries ≡ admissible_in rust h.front ++ admissible_in rust (e ∷ h.rest) =
     ap (λ (l : List IndexEntry). admissible_in rust l) h.split
     ∙ filter_map-append (admissible rust) h.front (e ∷ h.rest) in
@@ -125,14 +125,14 @@ greatest-versions rust test entries e h =
         front = admissible_in rust h.front;
         rest = admissible_in rust h.rest;
         split = whole ∙ ap (λ (l : List Parts). admissible_in rust h.front ++ l) head;
-        kept = k.2;
+        qualifies = k.2;
         before = All-filter_map (λ x. is_qualifying rust test x ≡ true → is_le (entry_order x e) ≡ true)
             (λ u. test u ≡ true → is_le (full_order u k.0) ≡ true)
             (admissible rust) (λ x u a p t. ap is_le (sym (at-read rust x e u k.0 a k.1))
-            ∙ p (kept-true rust test x u a t)) h.front h.before;
+            ∙ p (qualifies-true rust test x u a t)) h.front h.before;
         after = All-filter_map (λ x. is_qualifying rust test x ≡ true → entry_order x e ≡ Less) (λ u. test u ≡ true
             → full_order u k.0 ≡ Less)
             (admissible rust) (λ x u a p t. sym (at-read rust x e u k.0 a k.1)
-            ∙ p (kept-true rust test x u a t)) h.rest h.after;
+            ∙ p (qualifies-true rust test x u a t)) h.rest h.after;
       },
     )

@@ -8,7 +8,7 @@ use Rattle.std.specs.Cmp.{IsTotalOrder}
 use Rattle.std.specs.declared.cmp.Ordering.{Ordering}
 use Rattle.std.specs.declared.cmp.Ordering.TheVariants.{Less, Equal, Greater}
 use Rattle.std.proofs.lemmas.List.Elements.{All-append, All-cons, All-drop, All-head, All-nil, All-push, All-same, All-weaker}
-use Rattle.edit_version.specs.Greatest.{IsGreatest, IsGreatestKept, advance}
+use Rattle.edit_version.specs.Greatest.{IsGreatest, IsGreatestItem, advance}
 
 module _ {X : Type 0} (keep : X → Bool) (cmp : X → X → Ordering) (o : IsTotalOrder cmp) where
   -- none was kept, and this one is not
@@ -17,13 +17,13 @@ module _ {X : Type 0} (keep : X → Bool) (cmp : X → X → Ordering) (o : IsTo
   none-more xs x h k = All-push (λ y. keep y ≡ false) xs x h k
 
   -- none was kept, and this one is
-  pub first-kept : (xs : List X) (x : X) → IsGreatest keep cmp xs None → keep x ≡ true
+  pub first-qualifies : (xs : List X) (x : X) → IsGreatest keep cmp xs None → keep x ≡ true
       → IsGreatest keep cmp (xs ++ x ∷ []) (Some x)
-  first-kept xs x h k = record {
+  first-qualifies xs x h k = record {
     front = xs;
     rest = [];
     split = refl;
-    kept = k;
+    qualifies = k;
     before = All-weaker (λ y. keep y ≡ false) (λ y. keep y ≡ true → is_le (cmp y x) ≡ true)
         (λ y n p. cc (sym n ∙ p)) xs h;
     after = All-nil (λ y. keep y ≡ true → cmp y x ≡ Less);
@@ -36,7 +36,7 @@ module _ {X : Type 0} (keep : X → Bool) (cmp : X → X → Ordering) (o : IsTo
     front = h.front;
     rest = h.rest ++ x ∷ [];
     split = ap (λ (l : List X). l ++ x ∷ []) h.split ∙ append_assoc h.front (e ∷ h.rest) (x ∷ []);
-    kept = h.kept;
+    qualifies = h.qualifies;
     before = h.before;
     after = All-push (λ y. keep y ≡ true → cmp y e ≡ Less) h.rest x h.after k;
   }
@@ -88,7 +88,7 @@ module _ {X : Type 0} (keep : X → Bool) (cmp : X → X → Ordering) (o : IsTo
         front = xs;
         rest = [];
         split = refl;
-        kept = k;
+        qualifies = k;
         before = All-same (λ y. keep y ≡ true → is_le (cmp y x) ≡ true) xs (h.front ++ e ∷ h.rest) h.split
             (All-append (λ y. keep y ≡ true → is_le (cmp y x) ≡ true) h.front (e ∷ h.rest) front
             (All-cons (λ y. keep y ≡ true → is_le (cmp y x) ≡ true) e h.rest (λ q. above) rest));
@@ -105,15 +105,15 @@ pub advanced : {X : Type 0} (keep : X → Bool) (cmp : X → X → Ordering) →
     → (xs : List X) (x : X) (best : Option X)
     → IsGreatest keep cmp xs best → IsGreatest keep cmp (xs ++ x ∷ []) (advance keep cmp best x)
 advanced keep cmp o xs x None h = elim (cases_Bool (keep x)) [
-  | inl kept ↦ rw kept (first-kept keep cmp o xs x h kept)
-  | inr not_kept ↦ rw not_kept (none-more keep cmp o xs x h not_kept)
+  | inl qualifies ↦ rw qualifies (first-qualifies keep cmp o xs x h qualifies)
+  | inr rejected ↦ rw rejected (none-more keep cmp o xs x h rejected)
 ]
 advanced keep cmp o xs x (Some e) h = elim (cases_Bool (keep x)) [
-  | inl kept ↦ elim (cases_Bool (is_lt (cmp x e))) [
-    | inl below ↦ rw (kept, below) (stays keep cmp o xs x e h (λ q. less-from (cmp x e) below))
-    | inr other ↦ rw (kept, other) (rises keep cmp o xs x e h kept (λ q. cc (ap is_lt (sym q) ∙ other)))
+  | inl qualifies ↦ elim (cases_Bool (is_lt (cmp x e))) [
+    | inl below ↦ rw (qualifies, below) (stays keep cmp o xs x e h (λ q. less-from (cmp x e) below))
+    | inr other ↦ rw (qualifies, other) (rises keep cmp o xs x e h qualifies (λ q. cc (ap is_lt (sym q) ∙ other)))
   ]
-  | inr not_kept ↦ rw not_kept (stays keep cmp o xs x e h (λ q. cc (sym not_kept ∙ q)))
+  | inr rejected ↦ rw rejected (stays keep cmp o xs x e h (λ q. cc (sym rejected ∙ q)))
 ]
 
 -- one entry more of a list that is seen by a function
@@ -140,7 +140,7 @@ advanced-all {X} {Y} f keep cmp ys i best le h =
 
 -- every kept entry is at most the greatest
 all-le : {X : Type 0} (keep : X → Bool) (cmp : X → X → Ordering) → IsTotalOrder cmp → (xs : List X) (e : X)
-    → IsGreatestKept keep cmp xs e
+    → IsGreatestItem keep cmp xs e
     → All (λ x. keep x ≡ true → is_le (cmp x e) ≡ true) xs
 all-le keep cmp o xs e h =
     let at : All (λ x. keep x ≡ true → is_le (cmp x e) ≡ true) h.rest =
@@ -154,7 +154,7 @@ all-le keep cmp o xs e h =
 -- the greatest of more entries is not below
 pub wider : {X : Type 0} (keep wide : X → Bool) (cmp : X → X → Ordering) → IsTotalOrder cmp
     → ((x : X) → keep x ≡ true → wide x ≡ true)
-    → (xs : List X) (e f : X) → IsGreatestKept keep cmp xs e → IsGreatestKept wide cmp xs f
+    → (xs : List X) (e f : X) → IsGreatestItem keep cmp xs e → IsGreatestItem wide cmp xs f
     → is_le (cmp e f) ≡ true
 wider keep wide cmp o more xs e f h g =
     let all = All-same (λ x. wide x ≡ true → is_le (cmp x f) ≡ true) (h.front ++ e ∷ h.rest) xs (sym h.split)
@@ -165,16 +165,16 @@ wider keep wide cmp o more xs e f h g =
     All-same (λ x. wide x ≡ true → is_le (cmp x f) ≡ true) (e ∷ h.rest)
     (drop (length h.front) (h.front ++ e ∷ h.rest))
     (sym (drop_at h.front (e ∷ h.rest) (length h.front) refl)) part in
-    All-head (λ x. wide x ≡ true → is_le (cmp x f) ≡ true) e h.rest here (more e h.kept)
+    All-head (λ x. wide x ≡ true → is_le (cmp x f) ≡ true) e h.rest here (more e h.qualifies)
 
 -- where an entry is kept, there is a greatest of more
 pub wider-found : {X : Type 0} (keep wide : X → Bool) (cmp : X → X → Ordering)
     → ((x : X) → keep x ≡ true → wide x ≡ true)
-    → (xs : List X) (e : X) → IsGreatestKept keep cmp xs e → IsGreatest wide cmp xs None → ⊥
+    → (xs : List X) (e : X) → IsGreatestItem keep cmp xs e → IsGreatest wide cmp xs None → ⊥
 wider-found keep wide cmp more xs e h g =
     let all = All-same (λ x. wide x ≡ false) (h.front ++ e ∷ h.rest) xs (sym h.split) g in
     let part = All-drop (λ x. wide x ≡ false) (length h.front) (h.front ++ e ∷ h.rest) all in
     let here : All (λ x. wide x ≡ false) (e ∷ h.rest) =
     All-same (λ x. wide x ≡ false) (e ∷ h.rest) (drop (length h.front) (h.front ++ e ∷ h.rest))
     (sym (drop_at h.front (e ∷ h.rest) (length h.front) refl)) part in
-    cc (sym (All-head (λ x. wide x ≡ false) e h.rest here) ∙ more e h.kept)
+    cc (sym (All-head (λ x. wide x ≡ false) e h.rest here) ∙ more e h.qualifies)

@@ -7,7 +7,7 @@ use Rattle.semver.specs.Grammar.{IsValid}
 use Rattle.semver.specs.Parse.{Held, Parts, req_of}
 use Rattle.semver.specs.declared.error.Error as semver_error
 use Rattle.semver.specs.declared.Op.TheVariants as op
-use Rattle.edit_version.specs.Greatest.{IsGreatestKept}
+use Rattle.edit_version.specs.Greatest.{IsGreatestItem}
 use Rattle.edit_version.specs.Laws.{Admits, HasThreeNumbers, IsNarrower, holds_dash, precedence}
 use Rattle.edit_version.specs.Requirement.{Nothing, plain_text, upgrade_of}
 use Rattle.edit_version.specs.Selection.{is_admitted, is_offered}
@@ -25,7 +25,7 @@ use Rattle.edit_version.proofs.PreReleases.{admits-dash}
 pub record Lands (v : Parts) (t : List ℕ) : Type 0 where
   pub fixed : upgrade_of t v ≡ Nothing
   pub plain : length v.3 ≡ 0 → holds_dash t ≡ false
-  pub marked : 0 < length v.3 → holds_dash t ≡ true
+  pub dashed : 0 < length v.3 → holds_dash t ≡ true
   pub reached : length v.3 ≡ 0 → Admits t v
   pub least : 0 < length v.3 → (w : Parts) → Admits t w → is_ge (precedence w v) ≡ true
 
@@ -37,7 +37,7 @@ outcome-lands old v t valid offered h =
     record {
       fixed = (settled-of old v t w h).1;
       plain = release-no_dash old v t w h;
-      marked = λ some. ((form-of old v t w h).1 (dash-offered old v offered some)).1 some;
+      dashed = λ some. ((form-of old v t w h).1 (dash-offered old v offered some)).1 some;
       reached = λ none. reach-of old v t w h (inl none);
       least = λ some u a. no_lower-of old v t w h (dash-offered old v offered some) some u a;
     }
@@ -62,7 +62,7 @@ plain-lands v valid =
     record {
       fixed = fixed;
       plain = release-no_dash (plain_text v) v (plain_text v) w h;
-      marked = λ some. admits-dash (plain_text v) v a some;
+      dashed = λ some. admits-dash (plain_text v) v a some;
       reached = λ none. a;
       least = λ some u b. no_lower-of (plain_text v) v (plain_text v) w h
           (admits-dash (plain_text v) v a some) some u b;
@@ -72,23 +72,23 @@ plain-lands v valid =
 
 -- after the latest version was written, it is the latest again
 pub latest-again : (xs : List Parts) (old t : List ℕ) (v : Parts) → Lands v t
-    → IsGreatestKept (is_offered old) full_order xs v
-    → IsGreatestKept (is_offered t) full_order xs v
+    → IsGreatestItem (is_offered old) full_order xs v
+    → IsGreatestItem (is_offered t) full_order xs v
 latest-again xs old t v l h = elim (release-or v) [
   | inl plain ↦
       let none = l.plain plain in
       fewer (is_offered t) (is_offered old) (λ x k. offered-plain old x (plain-offered t x k none)) xs v h
       (offered-plain t v plain)
   | inr some ↦
-      let dash = dash-offered old v h.kept some in
+      let dash = dash-offered old v h.qualifies some in
       fewer (is_offered t) (is_offered old) (λ x k. offered-dash old x dash) xs v h
-      (offered-dash t v (l.marked some))
+      (offered-dash t v (l.dashed some))
 ]
 
 -- a version that the new text admits is the written one, but for build metadata
 pub near-is : (xs : List Parts) (t : List ℕ) (v u : Parts) → Lands v t
-    → IsGreatestKept (is_offered t) full_order xs v
-    → IsGreatestKept (is_admitted t) full_order xs u → SameVersion u v
+    → IsGreatestItem (is_offered t) full_order xs v
+    → IsGreatestItem (is_admitted t) full_order xs u → SameVersion u v
 near-is xs t v u l far near = elim (release-or v) [
   | inl plain ↦
       let mine = fewer (is_admitted t) (is_offered t) (λ x k. admitted-offered t x k) xs v far
@@ -99,7 +99,7 @@ near-is xs t v u l far near = elim (release-or v) [
   | inr some ↦
       squeezed u v (wider (is_admitted t) (is_offered t) full_order full_total
       (λ x k. admitted-offered t x k) xs u v near far)
-      (l.least some u (admitted t u near.kept))
+      (l.least some u (admitted t u near.qualifies))
 ]
 
 -- what `semver` reads of the version's own text
@@ -125,8 +125,8 @@ plain_text-parts u v a b e =
 
 -- after the compatible version was written, it is compatible again
 pub near-again : (xs : List Parts) (old t : List ℕ) (u : Parts) → IsNarrower old t u
-    → IsGreatestKept (is_admitted old) full_order xs u
-    → IsGreatestKept (is_admitted t) full_order xs u
+    → IsGreatestItem (is_admitted old) full_order xs u
+    → IsGreatestItem (is_admitted t) full_order xs u
 near-again xs old t u n h =
     fewer (is_admitted t) (is_admitted old) (λ x k. is_admitted-true old x (n.1 x (admitted t x k))) xs u h
     (is_admitted-true t u n.0)

@@ -22,7 +22,7 @@ pub mod Orders
 pub mod Offers
 pub mod Builds
 pub mod Lands
-pub mod Kept
+pub mod QualifyingEntries
 pub mod GreatestEntries
 -- Increments and crate specifications
 pub mod Steps

@@ -11,7 +11,7 @@ use Rattle.std.proofs.lemmas.List.{drop_at}
 use Rattle.std.proofs.lemmas.List.Elements.{All-drop, All-head, All-same, All-weaker}
 use Rattle.semver.specs.OrderLaws.{build-anti, build_total, pre-anti, pre_total}
 use Rattle.semver.specs.Parse.{Parts}
-use Rattle.edit_version.specs.Greatest.{IsGreatest, IsGreatestKept}
+use Rattle.edit_version.specs.Greatest.{IsGreatest, IsGreatestItem}
 use Rattle.edit_version.specs.Laws.{precedence}
 use Rattle.edit_version.proofs.Greatests.{wider, wider-found}
 use Rattle.edit_version.specs.VersionOrder.{full_order}
@@ -89,12 +89,12 @@ greatest-same keep xs (Some a) (Some b) h g =
 -- the greatest of more, where it is kept, is the greatest of fewer
 pub fewer : (keep wide : Parts → Bool) → ((x : Parts) → keep x ≡ true → wide x ≡ true)
     → (xs : List Parts) (e : Parts)
-    → IsGreatestKept wide full_order xs e → keep e ≡ true → IsGreatestKept keep full_order xs e
+    → IsGreatestItem wide full_order xs e → keep e ≡ true → IsGreatestItem keep full_order xs e
 fewer keep wide more xs e h k = record {
   front = h.front;
   rest = h.rest;
   split = h.split;
-  kept = k;
+  qualifies = k;
   before = All-weaker (λ x. wide x ≡ true → is_le (full_order x e) ≡ true) (λ x. keep x ≡ true
       → is_le (full_order x e) ≡ true)
       (λ x p q. p (more x q)) h.front h.before;
@@ -104,7 +104,7 @@ fewer keep wide more xs e h k = record {
 
 -- what holds of all holds of the greatest
 pub greatest-has : (P : Parts → Type 0) (keep : Parts → Bool) (xs : List Parts) (e : Parts) → All P xs
-    → IsGreatestKept keep full_order xs e → P e
+    → IsGreatestItem keep full_order xs e → P e
 greatest-has P keep xs e all h =
     let whole = All-same P (h.front ++ e ∷ h.rest) xs (sym h.split) all in
     let part = All-drop P (length h.front) (h.front ++ e ∷ h.rest) whole in

@@ -36,6 +36,6 @@ unfolding semver_on_literals digits
 star_stays = refl
 
 -- no requirement
-pub word_unread : upgrade_of (codes "one") two ≡ Unread
+pub letters_unread : upgrade_of (codes "one") two ≡ Unread
 unfolding semver_on_literals digits
-word_unread = refl
+letters_unread = refl

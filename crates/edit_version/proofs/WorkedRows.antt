@@ -40,9 +40,9 @@ unfolding semver_on_literals digits
 pre_release_dropped = refl
 
 -- a caret that leads the text is kept
-pub caret_kept : upgrade_of (codes "^1.2") two ≡ Text (codes "^2.0")
+pub caret_remains : upgrade_of (codes "^1.2") two ≡ Text (codes "^2.0")
 unfolding semver_on_literals digits
-caret_kept = refl
+caret_remains = refl
 
 -- none is added
 pub caret_not_added : upgrade_of (codes "1.2") two ≡ Text (codes "2.0")

@@ -21,8 +21,8 @@ minimum_rust e = option_and_then rust_of e.rust_version
 
 -- whether the required Rust version is above the given one, where there are both
 abbrev pub is_too_new : Option Numbers → Option Numbers → Bool
-is_too_new (Some asked) (Some given) = is_above asked given
-is_too_new asked given = false
+is_too_new (Some minimum) (Some given) = is_above minimum given
+is_too_new minimum given = false
 
 -- what is read of an entry that is not yanked and whose version is readable: its version, and the Rust
 -- version that it requires

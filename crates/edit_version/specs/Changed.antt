@@ -6,13 +6,13 @@ use Rattle.semver.specs.Parse.{Parts}
 use Rattle.semver.specs.declared.Version.{Version}
 use Rattle.edit_base.specs.declared.errors.Error.{Error}
 use Rattle.edit_base.specs.declared.errors.Error.TheVariants as error
-use Rattle.edit_version.specs.Increments.{AtEnd, Behind, Change, Metadata, Refused, Scheme, To, word}
+use Rattle.edit_version.specs.Increments.{AtEnd, Behind, Change, Metadata, Refused, Scheme, To, phase_name}
 use Rattle.edit_version.specs.declared.version.Phase.{Phase}
 
 -- the error of a change, with what it says about the version as it was (own)
 abbrev pub IsCause : Change → Parts → Error → Type 0
 IsCause c old (error.ReleaseLevel level version) =
-    (p : Phase) × (c ≡ Refused (Behind p)) × (string_bytes level ≡ word p)
+    (p : Phase) × (c ≡ Refused (Behind p)) × (string_bytes level ≡ phase_name p)
     × (string_bytes version ≡ parts_text old)
 IsCause c old error.PrereleaseScheme = c ≡ Refused Scheme
 IsCause c old (error.NumberAtEnd major minor patch) =

@@ -13,12 +13,12 @@ use Rattle.edit_version.specs.declared.crate_spec.CrateSpec.{CrateSpec}
 
 -- the name in a package spec, up to its first `@` (own)
 abbrev pub spec_name : List ℕ → List ℕ
-spec_name word = before_first (λ b. b == 64) word
+spec_name arg = before_first (λ b. b == 64) arg
 
 -- the requirement in a package spec, after its first `@`, none where there is no `@` (own)
 abbrev pub spec_requirement : List ℕ → Option (List ℕ)
-spec_requirement word = if position_or_len (λ b. b == 64) word == length word
-    then None else Some (after_first (λ b. b == 64) word)
+spec_requirement arg = if position_or_len (λ b. b == 64) arg == length arg
+    then None else Some (after_first (λ b. b == 64) arg)
 
 -- a character that a crate's name may have: `-`, `_`, a letter or a number of Unicode (own)
 abbrev pub is_name_char : ℕ → Bool
@@ -43,11 +43,11 @@ abbrev pub IsReadOrAbsent : Option (List ℕ) → Type 0
 IsReadOrAbsent req = IfSome req (λ text. IsOk (req_of text))
 
 -- what a package spec names: a name of fit characters, and a requirement that is read (own)
-pub record IsNamedBy (word : List ℕ) (spec : CrateSpec) : Type 0 where
-  pub crate_name : string_bytes spec.name ≡ spec_name word
-  pub fit : invalid_chars (spec_name word) ≡ []
-  pub requirement : option_map string_bytes spec.version_req ≡ spec_requirement word
-  pub readable : IsReadOrAbsent (spec_requirement word)
+pub record IsNamedBy (arg : List ℕ) (spec : CrateSpec) : Type 0 where
+  pub crate_name : string_bytes spec.name ≡ spec_name arg
+  pub fit : invalid_chars (spec_name arg) ≡ []
+  pub requirement : option_map string_bytes spec.version_req ≡ spec_requirement arg
+  pub readable : IsReadOrAbsent (spec_requirement arg)
 
 -- the error for a name, with its unfit characters (own)
 abbrev pub IsInvalidName : List ℕ → Error → Type 0
@@ -67,11 +67,11 @@ IsInvalidSpecRequirement req _ = ⊥
 -- the error for a package spec: for the characters of its name, else for its requirement, where memory lasts
 -- (own)
 abbrev pub IsInvalidSpec : List ℕ → Error → Type 0
-IsInvalidSpec word (error.InvalidName name characters) =
-    (0 < length (invalid_chars (spec_name word))) × (string_bytes name ≡ spec_name word)
-    × (string_bytes characters ≡ joined_chars (invalid_chars (spec_name word)))
-IsInvalidSpec word (error.InvalidRequirement text) =
-    (invalid_chars (spec_name word) ≡ []) × (spec_requirement word ≡ Some (string_bytes text))
+IsInvalidSpec arg (error.InvalidName name characters) =
+    (0 < length (invalid_chars (spec_name arg))) × (string_bytes name ≡ spec_name arg)
+    × (string_bytes characters ≡ joined_chars (invalid_chars (spec_name arg)))
+IsInvalidSpec arg (error.InvalidRequirement text) =
+    (invalid_chars (spec_name arg) ≡ []) × (spec_requirement arg ≡ Some (string_bytes text))
     × IsErr (req_of (string_bytes text))
-IsInvalidSpec word error.Memory = Unit {0}
-IsInvalidSpec word _ = ⊥
+IsInvalidSpec arg error.Memory = Unit {0}
+IsInvalidSpec arg _ = ⊥

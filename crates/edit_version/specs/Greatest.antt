@@ -6,19 +6,19 @@ use Rattle.std.specs.declared.cmp.Ordering.TheVariants.{Less}
 
 -- an entry that satisfies the condition; of those that do, none before it exceeds it, and all after it are
 -- below
-pub record IsGreatestKept {X : Type 0} (keep : X → Bool) (cmp : X → X → Ordering) (xs : List X) (e : X)
+pub record IsGreatestItem {X : Type 0} (keep : X → Bool) (cmp : X → X → Ordering) (xs : List X) (e : X)
     : Type 0 where
   pub front : List X
   pub rest : List X
   pub split : xs ≡ front ++ e ∷ rest
-  pub kept : keep e ≡ true
+  pub qualifies : keep e ≡ true
   pub before : All (λ x. keep x ≡ true → is_le (cmp x e) ≡ true) front
   pub after : All (λ x. keep x ≡ true → cmp x e ≡ Less) rest
 
 -- the last greatest entry that satisfies the condition, or none where no entry does
 abbrev pub IsGreatest : {X : Type 0} → (X → Bool) → (X → X → Ordering) → List X → Option X → Type 0
 IsGreatest keep cmp xs None = All (λ x. keep x ≡ false) xs
-IsGreatest keep cmp xs (Some e) = IsGreatestKept keep cmp xs e
+IsGreatest keep cmp xs (Some e) = IsGreatestItem keep cmp xs e
 
 -- the entry itself, unless it is below the one before it
 abbrev pub pick : {X : Type 0} → (X → X → Ordering) → Option X → X → X

@@ -52,10 +52,10 @@ next_patch v = (v.0, v.1, v.2 + 1, [], [])
 -- ---- phases
 
 -- the name of a phase (own)
-abbrev pub word : Phase → List ℕ
-word phase.Alpha = codes "alpha"
-word phase.Beta = codes "beta"
-word phase.Rc = codes "rc"
+abbrev pub phase_name : Phase → List ℕ
+phase_name phase.Alpha = codes "alpha"
+phase_name phase.Beta = codes "beta"
+phase_name phase.Rc = codes "rc"
 
 -- two texts are one
 abbrev pub is_text : List ℕ → List ℕ → Bool
@@ -69,7 +69,7 @@ is_later_phase phase.Rc w = false
 
 -- a pre-release of a phase, as `alpha.1` (SemVer 2.0.0, item 9)
 abbrev pub phase_prerelease : Phase → ℕ → List ℕ
-phase_prerelease p n = word p ++ (46 ∷ decimal n)
+phase_prerelease p n = phase_name p ++ (46 ∷ decimal n)
 
 -- the decimal number of 64 bits that a text is (own)
 abbrev pub number_of : List ℕ → Option ℕ
@@ -78,8 +78,8 @@ number_of text =
     then Some (digits_value 10 text) else None
 
 -- the name of a pre-release, up to its first dot (own)
-abbrev pub word_of : List ℕ → List ℕ
-word_of pre = before_first (λ b. b == 46) pre
+abbrev pub first_identifier : List ℕ → List ℕ
+first_identifier pre = before_first (λ b. b == 46) pre
 
 -- the number after the first dot, 0 where there is no dot (own)
 abbrev pub number_after : List ℕ → Option ℕ
@@ -92,7 +92,7 @@ abbrev pub next_of : Phase → Parts → List ℕ → Option ℕ → Change
 next_of p v w None = Refused Scheme
 next_of p v w (Some n) =
     if is_later_phase p w then Refused (Behind p)
-    else (if is_text w (word p) then if_fits (n + 1) (v.0, v.1, v.2, phase_prerelease p (n + 1), v.4)
+    else (if is_text w (phase_name p) then if_fits (n + 1) (v.0, v.1, v.2, phase_prerelease p (n + 1), v.4)
     else To (v.0, v.1, v.2, phase_prerelease p 1, v.4))
 
 -- the next version of a phase: the first of the next patch version, or
@@ -100,7 +100,7 @@ next_of p v w (Some n) =
 abbrev pub next_phase : Phase → Parts → Change
 next_phase p v =
     if length v.3 == 0 then if_fits (v.2 + 1) (v.0, v.1, v.2 + 1, phase_prerelease p 1, [])
-    else next_of p v (word_of v.3) (number_after v.3)
+    else next_of p v (first_identifier v.3) (number_after v.3)
 
 -- what incrementing gives (own)
 abbrev pub step : Level → Parts → Change

@@ -36,38 +36,38 @@ impl Candidate {
 }
 
 /// Whether the required Rust version is not above the given one, where there are both.
-pub fn is_for(asked: Option<RustVersion>, given: Option<RustVersion>) -> bool
-    ensures { result ≡ not (is_too_new (numbers_in asked) (numbers_in given)) }
+pub fn is_for(minimum: Option<RustVersion>, given: Option<RustVersion>) -> bool
+    ensures { result ≡ not (is_too_new (numbers_in minimum) (numbers_in given)) }
 {
-    match (asked, given) {
-        (Some(asked), Some(given)) => asked <= given,
+    match (minimum, given) {
+        (Some(minimum), Some(given)) => minimum <= given,
         _ => true,
     }
 }
 
 /// The Rust version that an entry requires, none where it names none or what is no Rust version.
-fn minimum_rust_version(alloc: Global, told: &IndexVersion) -> CargoResult<Option<RustVersion>>
-    ensures ok { IfOk result (λ o. option_map numbers_of o ≡ minimum_rust (entry_of told.now)) }
+fn minimum_rust_version(alloc: Global, index_entry: &IndexVersion) -> CargoResult<Option<RustVersion>>
+    ensures ok { IfOk result (λ o. option_map numbers_of o ≡ minimum_rust (entry_of index_entry.now)) }
     ensures error { IfErr result IsMemory }
 {
-    match &told.rust_version {
+    match &index_entry.rust_version {
         Some(text) => read_rust_version(alloc, text.as_str()),
         None => Ok(None),
     }
 }
 
 /// What is read of an entry, none where it is yanked or its version is not readable.
-pub fn read_candidate(alloc: Global, told: &IndexVersion) -> CargoResult<Option<Candidate>>
-    ensures ok { IfOk result (λ o. option_map candidate_view o ≡ candidate_in (entry_of told.now)) }
+pub fn read_candidate(alloc: Global, index_entry: &IndexVersion) -> CargoResult<Option<Candidate>>
+    ensures ok { IfOk result (λ o. option_map candidate_view o ≡ candidate_in (entry_of index_entry.now)) }
     ensures error { IfErr result IsMemory }
 {
-    if told.yanked {
+    if index_entry.yanked {
         return Ok(None);
     }
-    let Some(version) = read_version(alloc, told.version.as_str())? else {
+    let Some(version) = read_version(alloc, index_entry.version.as_str())? else {
         return Ok(None);
     };
-    let rust_version = minimum_rust_version(alloc, told)?;
+    let rust_version = minimum_rust_version(alloc, index_entry)?;
     Ok(Some(Candidate {
         version,
         rust_version,
@@ -87,16 +87,16 @@ pub fn is_selectable(version: &Version, allow_prerelease: bool, req: Option<&Ver
 /// The version of an entry that is admissible and wanted.
 fn qualifying_version(
     alloc: Global,
-    told: &IndexVersion,
+    index_entry: &IndexVersion,
     allow_prerelease: bool,
     req: Option<&VersionReq>,
     rust_version: Option<RustVersion>,
 ) -> CargoResult<Option<Version>>
     ensures ok { IfOk result (λ o. option_map parts_of o ≡ qualifying_in (numbers_in rust_version)
-        (wants allow_prerelease req.entry) (entry_of told.now)) }
+        (wants allow_prerelease req.entry) (entry_of index_entry.now)) }
     ensures error { IfErr result IsMemory }
 {
-    let Some(candidate) = read_candidate(alloc, told)? else {
+    let Some(candidate) = read_candidate(alloc, index_entry)? else {
         return Ok(None);
     };
     if !candidate.is_for(rust_version)
@@ -122,11 +122,11 @@ pub fn greatest_entry<'a>(
     ensures error { IfErr result IsMemory }
 {
     let mut best: Option<Found> = None;
-    'entries: for told in versions {
-        best = with_next_entry(alloc, best, told, allow_prerelease, req, rust_version)?;
+    'entries: for index_entry in versions {
+        best = with_next_entry(alloc, best, index_entry, allow_prerelease, req, rust_version)?;
     }
     match best {
-        Some(found) => Ok(Some(found.told)),
+        Some(found) => Ok(Some(found.index_entry)),
         None => Ok(None),
     }
 }
@@ -134,9 +134,9 @@ pub fn greatest_entry<'a>(
 /// The best entry so far, with its version.
 #[derive(Drop)]
 struct Found<'a> {
-    told: &'a IndexVersion,
+    index_entry: &'a IndexVersion,
     version: Version,
-    ghost read: { version_in (entry_of told.now) ≡ Some (parts_of version) },
+    ghost read: { version_in (entry_of index_entry.now) ≡ Some (parts_of version) },
 }
 
 /// Whether a version comes before another in the full order.
@@ -148,9 +148,9 @@ fn is_below(version: &Version, other: &Version) -> bool
 
 /// The later of two entries that is not below the other.
 fn later_entry<'a>(best: Option<Found<'a>>, found: Found<'a>) -> Found<'a>
-    ensures { entry_of result.told.now
-        ≡ pick entry_order (option_map (λ f. entry_of f.told.now) best.entry)
-        (entry_of found.entry.told.now) }
+    ensures { entry_of result.index_entry.now
+        ≡ pick entry_order (option_map (λ f. entry_of f.index_entry.now) best.entry)
+        (entry_of found.entry.index_entry.now) }
 {
     match best {
         Some(old) => {
@@ -168,20 +168,20 @@ fn later_entry<'a>(best: Option<Found<'a>>, found: Found<'a>) -> Found<'a>
 fn with_next_entry<'a>(
     alloc: Global,
     best: Option<Found<'a>>,
-    told: &'a IndexVersion,
+    index_entry: &'a IndexVersion,
     allow_prerelease: bool,
     req: Option<&VersionReq>,
     rust_version: Option<RustVersion>,
 ) -> CargoResult<Option<Found<'a>>>
-    ensures ok { IfOk result (λ o. option_map (λ f. entry_of f.told.now) o ≡ advance
+    ensures ok { IfOk result (λ o. option_map (λ f. entry_of f.index_entry.now) o ≡ advance
         (is_qualifying (numbers_in rust_version)
         (wants allow_prerelease req.entry))
-        entry_order (option_map (λ f. entry_of f.told.now) best.entry) (entry_of told.now)) }
+        entry_order (option_map (λ f. entry_of f.index_entry.now) best.entry) (entry_of index_entry.now)) }
     ensures error { IfErr result IsMemory }
 {
-    let kept = qualifying_version(alloc, told, allow_prerelease, req, rust_version)?;
-    match kept {
-        Some(version) => Ok(Some(later_entry(best, Found { told, version }))),
+    let qualifying = qualifying_version(alloc, index_entry, allow_prerelease, req, rust_version)?;
+    match qualifying {
+        Some(version) => Ok(Some(later_entry(best, Found { index_entry, version }))),
         None => Ok(best),
     }
 }

@@ -79,13 +79,13 @@ fn check_requirement(alloc: Global, req: Option<&str>) -> CargoResult<Option<Str
 }
 
 /// A text before and after its first `@`.
-fn split_word(word: &str) -> (&str, Option<&str>)
-    ensures name { result.0.now ≡ spec_name word.now }
-    ensures requirement { option_map (λ s. s.now) result.1 ≡ spec_requirement word.now }
+fn split_arg(arg: &str) -> (&str, Option<&str>)
+    ensures name { result.0.now ≡ spec_name arg.now }
+    ensures requirement { option_map (λ s. s.now) result.1 ≡ spec_requirement arg.now }
 {
-    match word.split_once('@') {
+    match arg.split_once('@') {
         Some((name, req)) => (name, Some(req)),
-        None => (word, None),
+        None => (arg, None),
     }
 }
 
@@ -94,11 +94,11 @@ impl CrateSpec {
     ///
     /// Refused with 20 where the name has a character that is no letter and no number of Unicode, no `-` and
     /// no `_`, and with 14 where the text after the first `@` is no requirement.
-    pub fn resolve(alloc: Global, word: &str) -> CargoResult<CrateSpec>
-        ensures ok { IfOk result (λ s. IsNamedBy word.now s) }
-        ensures error { IfErr result (λ e. IsInvalidSpec word.now e) }
+    pub fn resolve(alloc: Global, arg: &str) -> CargoResult<CrateSpec>
+        ensures ok { IfOk result (λ s. IsNamedBy arg.now s) }
+        ensures error { IfErr result (λ e. IsInvalidSpec arg.now e) }
     {
-        let (name, req) = split_word(word);
+        let (name, req) = split_arg(arg);
         check_name(alloc, name)?;
         let version_req = check_requirement(alloc, req)?;
         Ok(CrateSpec {
@@ -108,10 +108,10 @@ impl CrateSpec {
     }
 
     /// The same as `resolve`.
-    pub fn from_str(alloc: Global, word: &str) -> CargoResult<CrateSpec>
-        ensures ok { IfOk result (λ s. IsNamedBy word.now s) }
-        ensures error { IfErr result (λ e. IsInvalidSpec word.now e) }
+    pub fn from_str(alloc: Global, arg: &str) -> CargoResult<CrateSpec>
+        ensures ok { IfOk result (λ s. IsNamedBy arg.now s) }
+        ensures error { IfErr result (λ e. IsInvalidSpec arg.now e) }
     {
-        CrateSpec::resolve(alloc, word)
+        CrateSpec::resolve(alloc, arg)
     }
 }

@@ -2,7 +2,7 @@
 
 ghost use Rattle.std.specs.Prelude.{◌≡◌, ◌<◌, ◌+◌, ◌↔◌, IfErr, IfOk, IsTrue, MatchOption, None, OnOk, Some, length, option_map};
 ghost use Rattle.edit_version.specs.Changed.{IsCause, IsChanged, IsRaisedOrAtEnd, IsInvalidBuild};
-ghost use Rattle.edit_version.specs.Increments.{Major, Minor, Patch, Pre, To, is_later_phase, next_phase, number_after, number_of, phase_prerelease, step, with_build, word, word_of};
+ghost use Rattle.edit_version.specs.Increments.{Major, Minor, Patch, Pre, To, is_later_phase, next_phase, number_after, number_of, phase_prerelease, step, with_build, phase_name, first_identifier};
 ghost use Rattle.edit_base.specs.declared.errors.Error.TheVariants as error;
 ghost use Rattle.edit_version.specs.declared.version.Phase.TheVariants as phase;
 ghost use Rattle.edit_base.specs.Errors.{IsMemory};
@@ -73,8 +73,8 @@ enum Phase {
 }
 
 impl Phase {
-    fn word(self) -> &'static str
-        ensures { result.now ≡ word self }
+    fn phase_name(self) -> &'static str
+        ensures { result.now ≡ phase_name self }
     {
         match self {
             Phase::Alpha => "alpha",
@@ -84,12 +84,12 @@ impl Phase {
     }
 
     /// Whether a text names a phase behind this one.
-    fn is_before(self, word: &str) -> bool
-        ensures { result ≡ is_later_phase self word.now }
+    fn is_before(self, phase_name: &str) -> bool
+        ensures { result ≡ is_later_phase self phase_name.now }
     {
         match self {
-            Phase::Alpha => word == "beta" || word == "rc",
-            Phase::Beta => word == "rc",
+            Phase::Alpha => phase_name == "beta" || phase_name == "rc",
+            Phase::Beta => phase_name == "rc",
             Phase::Rc => false,
         }
     }
@@ -202,8 +202,8 @@ fn phase_prerelease(alloc: Global, phase: Phase, number: u64) -> CargoResult<Pre
         × IsTrue (is_pre_release (pre_text p))) }
     ensures err { IfErr result (λ e. e ≡ error.Memory) }
 {
-    let word = phase.word();
-    let text = format!(in alloc; "{word}.{number}")?;
+    let phase_name = phase.phase_name();
+    let text = format!(in alloc; "{phase_name}.{number}")?;
     match Prerelease::new(alloc, text.as_str()) {
         Ok(pre) => Ok(pre),
         Err(_) => Err(Error::Memory),
@@ -230,15 +230,15 @@ fn read_number(text: &str) -> Option<u64>
 }
 
 /// The name of a pre-release, and the number after its first dot, 0 where there is no dot.
-fn word_and_number(pre: &str) -> Option<(&str, u64)>
+fn identifier_and_number(pre: &str) -> Option<(&str, u64)>
     ensures { MatchOption result (number_after pre.now ≡ None)
-        (λ x. (x.0.now ≡ word_of pre.now) × (number_after pre.now ≡ Some x.1)) }
+        (λ x. (x.0.now ≡ first_identifier pre.now) × (number_after pre.now ≡ Some x.1)) }
 {
-    let Some((word, rest)) = pre.split_once('.') else {
+    let Some((phase_name, rest)) = pre.split_once('.') else {
         return Some((pre, 0));
     };
     let number = read_number(rest)?;
-    Some((word, number))
+    Some((phase_name, number))
 }
 
 /// The number of the next pre-release of a phase.
@@ -255,16 +255,16 @@ fn next_number(alloc: Global, version: &Version, phase: Phase) -> CargoResult<u6
     ensures err { IfErr result (λ e. IsCause (next_phase phase (parts_of version.now))
         (parts_of version.now) e) }
 {
-    let Some((word, number)) = word_and_number(version.pre.as_str()) else {
+    let Some((phase_name, number)) = identifier_and_number(version.pre.as_str()) else {
         return Err(Error::PrereleaseScheme);
     };
-    if phase.is_before(word) {
+    if phase.is_before(phase_name) {
         return Err(Error::ReleaseLevel {
-            level: String::from_str(alloc, phase.word())?,
+            level: String::from_str(alloc, phase.phase_name())?,
             version: format!(in alloc; "{version}")?,
         });
     }
-    if word != phase.word() {
+    if phase_name != phase.phase_name() {
         return Ok(1);
     }
     match number.checked_add(1) {

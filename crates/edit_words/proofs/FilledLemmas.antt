@@ -11,54 +11,54 @@ use Rattle.edit_words.specs.Filled.{inserted_values, insert_defaults, is_one, mi
 
 -- what words become behind a word `--`, where there was one, or else
 abbrev pub rest_of : Bool → List Text → List Text
-rest_of true words = words
-rest_of false words = insert_defaults words
+rest_of true args = args
+rest_of false args = insert_defaults args
 
 -- one more word
-pub turn : (ended : Bool) (word : Text) (rest : List Text)
-    → rest_of ended (word ∷ rest)
-    ≡ (word ∷ inserted_values (ended || bytes_eq word (codes "--")) word (slice_get rest 0))
-    ++ rest_of (ended || bytes_eq word (codes "--")) rest
+pub turn : (ended : Bool) (arg : Text) (rest : List Text)
+    → rest_of ended (arg ∷ rest)
+    ≡ (arg ∷ inserted_values (ended || bytes_eq arg (codes "--")) arg (slice_get rest 0))
+    ++ rest_of (ended || bytes_eq arg (codes "--")) rest
 unfolding insert_defaults
-turn true word rest = refl
-turn false word rest = go (bytes_eq word (codes "--"))
+turn true arg rest = refl
+turn false arg rest = go (bytes_eq arg (codes "--"))
   where
     go : (b : Bool)
-        → word ∷ (inserted_values b word (slice_get rest 0) ++ (if b then rest else insert_defaults rest))
-        ≡ (word ∷ inserted_values b word (slice_get rest 0)) ++ rest_of b rest
+        → arg ∷ (inserted_values b arg (slice_get rest 0) ++ (if b then rest else insert_defaults rest))
+        ≡ (arg ∷ inserted_values b arg (slice_get rest 0)) ++ rest_of b rest
     go true = refl
     go false = refl
 
-next_of : (words : List (Bor Text)) (n : ℕ)
-    → option_map (λ (w : Bor Text). w.now) (slice_get words n)
-    ≡ slice_get (map (λ (w : Bor Text). w.now) (drop n words)) 0
+next_of : (args : List (Bor Text)) (n : ℕ)
+    → option_map (λ (w : Bor Text). w.now) (slice_get args n)
+    ≡ slice_get (map (λ (w : Bor Text). w.now) (drop n args)) 0
 next_of [] zero = refl
 next_of [] (suc n) = refl
-next_of (word ∷ words) zero = refl
-next_of (word ∷ words) (suc n) = next_of words n
+next_of (arg ∷ args) zero = refl
+next_of (arg ∷ args) (suc n) = next_of args n
 
 -- one more word of a slice
-pub pushed : (ended now_ended : Bool) (words : List (Bor Text)) (n : ℕ) (word other : Bor Text)
+pub pushed : (ended now_ended : Bool) (args : List (Bor Text)) (n : ℕ) (arg other : Bor Text)
     (old new all : List Text) (next : Option Text)
-    → n < length words → word ≡ slice_index_or words n other
-    → next ≡ option_map (λ (w : Bor Text). w.now) (slice_get words (n + 1))
-    → now_ended ≡ (ended || bytes_eq word.now (codes "--"))
-    → new ≡ old ++ word.now ∷ inserted_values now_ended word.now next
-    → old ++ rest_of ended (map (λ (w : Bor Text). w.now) (drop n words)) ≡ all
-    → new ++ rest_of now_ended (map (λ (w : Bor Text). w.now) (drop (n + 1) words)) ≡ all
-pushed ended now_ended words n word other old new all next lt at is_next is_ended is_new before =
-    let rest : List Text = map (λ (w : Bor Text). w.now) (drop (n + 1) words) in
-    let split : drop n words ≡ word ∷ drop (n + 1) words =
-    drop-cons words n other lt ∙ ap (λ w. w ∷ drop (suc n) words) (sym at)
-    ∙ ap (λ k. word ∷ drop k words) (sym (add-one n)) in
-    let first : next ≡ slice_get rest 0 = is_next ∙ next_of words (n + 1) in
+    → n < length args → arg ≡ slice_index_or args n other
+    → next ≡ option_map (λ (w : Bor Text). w.now) (slice_get args (n + 1))
+    → now_ended ≡ (ended || bytes_eq arg.now (codes "--"))
+    → new ≡ old ++ arg.now ∷ inserted_values now_ended arg.now next
+    → old ++ rest_of ended (map (λ (w : Bor Text). w.now) (drop n args)) ≡ all
+    → new ++ rest_of now_ended (map (λ (w : Bor Text). w.now) (drop (n + 1) args)) ≡ all
+pushed ended now_ended args n arg other old new all next lt at is_next is_ended is_new before =
+    let rest : List Text = map (λ (w : Bor Text). w.now) (drop (n + 1) args) in
+    let split : drop n args ≡ arg ∷ drop (n + 1) args =
+    drop-cons args n other lt ∙ ap (λ w. w ∷ drop (suc n) args) (sym at)
+    ∙ ap (λ k. arg ∷ drop k args) (sym (add-one n)) in
+    let first : next ≡ slice_get rest 0 = is_next ∙ next_of args (n + 1) in
     ap (λ xs. xs ++ rest_of now_ended rest) is_new
-    ∙ append_assoc old (word.now ∷ inserted_values now_ended word.now next) (rest_of now_ended rest)
-    ∙ ap (λ (o : Option Text). old ++ ((word.now ∷ inserted_values now_ended word.now o) ++ rest_of now_ended rest))
+    ∙ append_assoc old (arg.now ∷ inserted_values now_ended arg.now next) (rest_of now_ended rest)
+    ∙ ap (λ (o : Option Text). old ++ ((arg.now ∷ inserted_values now_ended arg.now o) ++ rest_of now_ended rest))
     first
-    ∙ ap (λ (b : Bool). old ++ ((word.now ∷ inserted_values b word.now (slice_get rest 0)) ++ rest_of b rest))
+    ∙ ap (λ (b : Bool). old ++ ((arg.now ∷ inserted_values b arg.now (slice_get rest 0)) ++ rest_of b rest))
     is_ended
-    ∙ ap (λ xs. old ++ xs) (sym (turn ended word.now rest))
+    ∙ ap (λ xs. old ++ xs) (sym (turn ended arg.now rest))
     ∙ ap (λ (ws : List (Bor Text)). old ++ rest_of ended (map (λ (w : Bor Text). w.now) ws)) (sym split)
     ∙ before
 
@@ -68,22 +68,22 @@ rest_of_none true = refl
 rest_of_none false = refl
 
 -- no more words
-pub all_pushed : (ended : Bool) (words : List (Bor Text)) (n : ℕ) (old all : List Text) → length words ≤ n
-    → old ++ rest_of ended (map (λ (w : Bor Text). w.now) (drop n words)) ≡ all → old ≡ all
-all_pushed ended words n old all past before =
-    let none : drop n words ≡ [] = drop_of_length-le words past in
+pub all_pushed : (ended : Bool) (args : List (Bor Text)) (n : ℕ) (old all : List Text) → length args ≤ n
+    → old ++ rest_of ended (map (λ (w : Bor Text). w.now) (drop n args)) ≡ all → old ≡ all
+all_pushed ended args n old all past before =
+    let none : drop n args ≡ [] = drop_of_length-le args past in
     sym (append-nil old) ∙ ap (λ xs. old ++ xs) (sym (rest_of_none ended))
     ∙ ap (λ (ws : List (Bor Text)). old ++ rest_of ended (map (λ (w : Bor Text). w.now) ws)) (sym none)
     ∙ before
 
 -- what is got of a slice
-pub got : (o : Option (Bor (Bor Text))) (words : List (Bor Text)) (n : ℕ)
-    → MatchOption o (length words ≤ n) (λ x. n < length words × HoldsAt (λ y. x.now ≡ y) words n)
+pub got : (o : Option (Bor (Bor Text))) (args : List (Bor Text)) (n : ℕ)
+    → MatchOption o (length args ≤ n) (λ x. n < length args × HoldsAt (λ y. x.now ≡ y) args n)
     → option_map (λ (w : Bor (Bor Text)). w.now.now) o
-    ≡ option_map (λ (w : Bor Text). w.now) (slice_get words n)
-got None words n past = sym (ap (option_map (λ (w : Bor Text). w.now)) (slice_get_past words n past))
-got (Some x) words n (lt, at) =
-    let one : slice_get words n ≡ Some x.now = slice_get-get_or words n x.now lt
+    ≡ option_map (λ (w : Bor Text). w.now) (slice_get args n)
+got None args n past = sym (ap (option_map (λ (w : Bor Text). w.now)) (slice_get_past args n past))
+got (Some x) args n (lt, at) =
+    let one : slice_get args n ≡ Some x.now = slice_get-get_or args n x.now lt
     ∙ ap (λ (w : Bor Text). Some w) (sym (at x.now)) in
     sym (ap (option_map (λ (w : Bor Text). w.now)) one)
 

@@ -1,4 +1,4 @@
 pub mod CommandFacts
 pub mod CommandLemmas
 pub mod FilledLemmas
-pub mod WordLemmas
+pub mod ArgSpecLemmas

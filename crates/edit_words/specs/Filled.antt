@@ -19,9 +19,9 @@ is_one texts text = list_any (λ other. bytes_eq text other) texts
 
 -- the values of an option that may stand without one; the first of them is the one that it then has
 abbrev pub values_behind : Text → List Text
-values_behind word =
-    if is_one status_options word then statuses
-    else (if bytes_eq word (codes "--recursive") then codes "true" ∷ codes "false" ∷ [] else [])
+values_behind arg =
+    if is_one status_options arg then statuses
+    else (if bytes_eq arg (codes "--recursive") then codes "true" ∷ codes "false" ∷ [] else [])
 
 -- the value that such an option gets where the next argument is none of its values
 abbrev pub missing_value : List Text → Option Text → Option Text
@@ -35,12 +35,12 @@ option_list (Some value) = value ∷ []
 
 -- what is added behind an argument before this next one: behind an argument `--` nothing
 abbrev pub inserted_values : Bool → Text → Option Text → List Text
-inserted_values ended word next =
-    if ended then [] else option_list (missing_value (values_behind word) next)
+inserted_values ended arg next =
+    if ended then [] else option_list (missing_value (values_behind arg) next)
 
 -- the arguments, with a value behind each option that stands without one, before an argument `--`
 unfoldable pub insert_defaults : List Text → List Text
 insert_defaults [] = []
-insert_defaults (word ∷ rest) =
-    let ended = bytes_eq word (codes "--") in
-    word ∷ inserted_values ended word (slice_get rest 0) ++ (if ended then rest else insert_defaults rest)
+insert_defaults (arg ∷ rest) =
+    let ended = bytes_eq arg (codes "--") in
+    arg ∷ inserted_values ended arg (slice_get rest 0) ++ (if ended then rest else insert_defaults rest)

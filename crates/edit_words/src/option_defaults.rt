@@ -8,10 +8,10 @@ ghost use Rattle.edit_words.specs.Filled.{inserted_values, insert_defaults, is_o
 use std::alloc::{AllocError, Global};
 
 /// The values of an option that may stand without one; the first of them is the one that it then has.
-fn values_behind(word: &str) -> &'static [&'static str]
-    ensures { map (λ v. v.now) result.now ≡ values_behind word.now }
+fn values_behind(arg: &str) -> &'static [&'static str]
+    ensures { map (λ v. v.now) result.now ≡ values_behind arg.now }
 {
-    match word {
+    match arg {
         "--compatible" | "-i" | "--incompatible" | "--pinned" => {
             &["allow", "true", "ignore", "false"]
         }
@@ -39,11 +39,11 @@ fn has_value(values: &[&str], next: Option<&&str>) -> bool
 }
 
 /// The value of an option where the next argument is none of its values.
-fn missing_value(word: &str, next: Option<&&str>) -> Option<&'static str>
+fn missing_value(arg: &str, next: Option<&&str>) -> Option<&'static str>
     ensures { option_map (λ v. v.now) result
-        ≡ missing_value (values_behind word.now) (option_map (λ w. w.now.now) next.entry) }
+        ≡ missing_value (values_behind arg.now) (option_map (λ w. w.now.now) next.entry) }
 {
-    let values = values_behind(word);
+    let values = values_behind(arg);
     if has_value(values, next) {
         None
     } else {
@@ -52,42 +52,42 @@ fn missing_value(word: &str, next: Option<&&str>) -> Option<&'static str>
 }
 
 /// Whether options have ended at an argument `--` before this one, or end here.
-fn has_ended(ended: bool, word: &str) -> bool
-    ensures { result ≡ (ended || bytes_eq word.now (codes "--")) }
+fn has_ended(ended: bool, arg: &str) -> bool
+    ensures { result ≡ (ended || bytes_eq arg.now (codes "--")) }
 {
-    ended || word == "--"
+    ended || arg == "--"
 }
 
 /// Appends an argument, and its default value, where options have not ended.
 fn push_with_default<'a>(
-    words: &mut Vec<&'a str>,
-    word: &'a str,
+    args: &mut Vec<&'a str>,
+    arg: &'a str,
     next: Option<&&'a str>,
     ended: bool,
 ) -> Result<(), AllocError>
-    ensures { OnOk result (map (λ w. w.now) words.new.items ≡ map (λ w. w.now) words.old.items
-        ++ word.entry.now ∷ inserted_values ended word.entry.now (option_map (λ w. w.now.now) next.entry)) }
+    ensures { OnOk result (map (λ w. w.now) args.new.items ≡ map (λ w. w.now) args.old.items
+        ++ arg.entry.now ∷ inserted_values ended arg.entry.now (option_map (λ w. w.now.now) next.entry)) }
 {
-    words.push(word)?;
+    args.push(arg)?;
     if ended {
         return Ok(());
     }
-    if let Some(value) = missing_value(word, next) {
-        words.push(value)?;
+    if let Some(value) = missing_value(arg, next) {
+        args.push(value)?;
     }
     Ok(())
 }
 
 /// The arguments, with a value behind each option that stands without one, before an argument `--`: such an
 /// option then says yes. Only the list is new, the arguments are borrowed; fails for want of memory alone.
-pub fn insert_defaults<'a>(alloc: Global, words: &[&'a str]) -> Result<Vec<&'a str>, AllocError>
-    ensures { IfOk result (λ v. map (λ w. w.now) v.items ≡ insert_defaults (map (λ w. w.now) words.now)) }
+pub fn insert_defaults<'a>(alloc: Global, args: &[&'a str]) -> Result<Vec<&'a str>, AllocError>
+    ensures { IfOk result (λ v. map (λ w. w.now) v.items ≡ insert_defaults (map (λ w. w.now) args.now)) }
 {
     let mut all = Vec::new(alloc);
     let mut ended = false;
-    for at in 0..words.len() {
-        ended = has_ended(ended, words[at]);
-        push_with_default(&mut all, words[at], words.get(at + 1), ended)?;
+    for at in 0..args.len() {
+        ended = has_ended(ended, args[at]);
+        push_with_default(&mut all, args[at], args.get(at + 1), ended)?;
     }
     Ok(all)
 }

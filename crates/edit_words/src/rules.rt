@@ -103,13 +103,13 @@ fn path<'a>(arg: Arg<'a>, value: &'a str) -> Arg<'a>
 }
 
 /// The argument for `clap`, without its letter and its default.
-fn arg_of_form<'a>(alloc: Global, word: ArgSpec<'a>) -> Arg<'a>
-    ensures rule { rule_of result ≡ form_rule word.entry.form word.entry.id.now }
+fn arg_of_form<'a>(alloc: Global, arg_spec: ArgSpec<'a>) -> Arg<'a>
+    ensures rule { rule_of result ≡ form_rule arg_spec.entry.form arg_spec.entry.id.now }
     ensures local { result.global ≡ false }
 {
-    let id = word.id;
-    let arg = Arg::new(alloc, id).help(word.about);
-    match word.form {
+    let id = arg_spec.id;
+    let arg = Arg::new(alloc, id).help(arg_spec.about);
+    match arg_spec.form {
         Form::Alone(value) => valued_arg(arg, value, ArgAction::Set, ValueParser::String),
         Form::Path(value) => path(arg.long(id), value),
         Form::Needed(value) => path(arg.long(id), value).required(true),
@@ -127,12 +127,12 @@ fn arg_of_form<'a>(alloc: Global, word: ArgSpec<'a>) -> Arg<'a>
 }
 
 /// The argument for `clap`.
-fn to_clap_arg<'a>(alloc: Global, word: ArgSpec<'a>) -> Arg<'a>
-    ensures rule { rule_of result ≡ arg_rule word.entry }
+fn to_clap_arg<'a>(alloc: Global, arg_spec: ArgSpec<'a>) -> Arg<'a>
+    ensures rule { rule_of result ≡ arg_rule arg_spec.entry }
     ensures local { result.global ≡ false }
 {
-    let arg = arg_of_form(alloc, word);
-    match (word.letter, word.default) {
+    let arg = arg_of_form(alloc, arg_spec);
+    match (arg_spec.letter, arg_spec.default) {
         (None, None) => arg,
         (Some(letter), None) => arg.short(letter),
         (None, Some(value)) => arg.default_value(value),
@@ -145,14 +145,14 @@ fn to_clap_arg<'a>(alloc: Global, word: ArgSpec<'a>) -> Arg<'a>
 pub(crate) fn with_args<'a>(
     alloc: Global,
     command: Result<Command<'a>, AllocError>,
-    words: &[ArgSpec<'a>],
+    arg_specs: &[ArgSpec<'a>],
 ) -> Result<Command<'a>, AllocError>
     ensures { (app : App) → IfOk command.entry (IsLocal app)
-        → IfOk result (IsLocal (with_rules app (map arg_rule words.now))) }
+        → IfOk result (IsLocal (with_rules app (map arg_rule arg_specs.now))) }
 {
     let mut command = command?;
-    for word in words {
-        command = command.arg(to_clap_arg(alloc, *word))?;
+    for arg_spec in arg_specs {
+        command = command.arg(to_clap_arg(alloc, *arg_spec))?;
     }
     Ok(command)
 }

@@ -63,9 +63,9 @@ fn a_new_body(rt: HostRuntime) -> Result<(), Fail> {
 /// Whether a run with this outcome and body uses the old entry unchanged, with a warning.
 fn is_old_entry_used(alloc: Global, answer: &[u8], body: &[u8]) -> Result<bool, Fail> {
     let (mut store, report) = run_with(alloc, answer, body)?;
-    let kept = entry(alloc, &mut store)?.as_slice() == OLD;
+    let keeps = entry(alloc, &mut store)?.as_slice() == OLD;
     let serves = store.read(alloc, INDEXED)?.is_some();
-    Ok(kept && serves && report.error.is_none() && !report.warnings.is_empty())
+    Ok(keeps && serves && report.error.is_none() && !report.warnings.is_empty())
 }
 
 #[test]

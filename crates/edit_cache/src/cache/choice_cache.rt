@@ -51,7 +51,7 @@ impl<I: Index> IndexCache<I> {
             return Ok(());
         };
         match names.get_mut(name) {
-            Some(kept) => kept.rank_for(alloc, old, rust_version),
+            Some(cached) => cached.rank_for(alloc, old, rust_version),
             None => Ok(()),
         }
     }

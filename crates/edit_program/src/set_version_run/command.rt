@@ -23,7 +23,7 @@ const DRY_RUN: &str = "aborting set-version due to dry run";
 /// run, not.
 pub fn set_version<S: Store, O: io::Write, E: io::Write>(
     alloc: Global,
-    words: &SetVersionArgs<'_>,
+    args: &SetVersionArgs<'_>,
     current: &str,
     files: &mut S,
     out: &mut O,
@@ -31,42 +31,42 @@ pub fn set_version<S: Store, O: io::Write, E: io::Write>(
 ) -> RunResult<bool>
     ensures done { IfOk result (λ due. (S.view files.old).tells ≡ true
         → AreVersionsSet (Appends (O.contents out.old) (O.contents out.new))
-        (Appends (E.contents err.old) (E.contents err.new)) words.now current.now due
+        (Appends (E.contents err.old) (E.contents err.new)) args.now current.now due
         (S.view files.old) (S.view files.new)) }
     // an error before the first write leaves each file as it was
     ensures error { OnErr result ((S.view files.old).tells ≡ true
         → SameFiles (S.view files.old).file_at (S.view files.new).file_at
         ⊎ IsSettingInterrupted (Appends (O.contents out.old) (O.contents out.new))
-        (Appends (E.contents err.old) (E.contents err.new)) words.now current.now
+        (Appends (E.contents err.old) (E.contents err.new)) args.now current.now
         (S.view files.old) (S.view files.new)) }
     // and each error has its cause
-    ensures why { IfErr result (λ r. IsSetVersionCause words.now current.now
+    ensures why { IfErr result (λ r. IsSetVersionCause args.now current.now
         (S.view files.old) (S.view files.new) r.error) }
     // over any store, an error of the device is counted
     ensures counted { IfErr result (λ r. CountsFault (S.view files.old) (S.view files.new) r.error) }
 {
-    let writes = !words.dry_run;
+    let writes = !args.dry_run;
     let read = read_workspace(
         alloc,
-        words.metadata_json,
+        args.metadata_json,
         current,
         None,
         true,
         writes,
         files,
     )?;
-    warn_if(words.all, ALL, err)?;
-    let plan = plan_for(alloc, words, &read)?;
+    warn_if(args.all, ALL, err)?;
+    let plan = plan_for(alloc, args, &read)?;
     print_plan(
         alloc,
-        words,
+        args,
         read.workspace.root.as_str(),
         read.inputs.as_slice(),
         &plan,
         out,
         err,
     )?;
-    warn_if(words.dry_run, DRY_RUN, err)?;
-    write_outputs(alloc, outputs_to_write(words, &plan), files)?;
+    warn_if(args.dry_run, DRY_RUN, err)?;
+    write_outputs(alloc, outputs_to_write(args, &plan), files)?;
     Ok(has_some(&plan))
 }

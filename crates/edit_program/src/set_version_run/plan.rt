@@ -21,29 +21,29 @@ use std::alloc::Global;
 /// The plan for the workspace, as the arguments request it.
 pub(crate) fn plan_for(
     alloc: Global,
-    words: &SetVersionArgs<'_>,
+    args: &SetVersionArgs<'_>,
     read: &ReadWorkspace,
 ) -> RunResult<SetVersionPlan>
     requires inputs { AreInputs no_rust (workspace_view read.now.workspace) read.now.inputs.items }
     requires folders { HasOwnFolders (workspace_view read.now.workspace) }
     requires readable { All (λ p. IsReadable (parts_of p.version)) read.now.workspace.packages.items }
-    ensures planned { IfOk result (IsVersionPlan (target_of words.now.target)
-        (selection_view words.now.selection) (workspace_view read.now.workspace) read.now.inputs.items) }
-    ensures error { IfErr result (λ r. IsCauseOf (target_of words.now.target)
-        (selection_view words.now.selection) (workspace_view read.now.workspace) read.now.inputs.items r.error) }
+    ensures planned { IfOk result (IsVersionPlan (target_of args.now.target)
+        (selection_view args.now.selection) (workspace_view read.now.workspace) read.now.inputs.items) }
+    ensures error { IfErr result (λ r. IsCauseOf (target_of args.now.target)
+        (selection_view args.now.selection) (workspace_view read.now.workspace) read.now.inputs.items r.error) }
     ensures counted { IfErr result (λ r. number_of r.error ≢ 3) }
 {
     let ReadWorkspace { workspace, inputs } = read;
     match plan_set_version(
         alloc,
-        &words.target,
-        &words.selection,
+        &args.target,
+        &args.selection,
         workspace,
         inputs.as_slice(),
     ) {
         Ok(plan) => Ok(plan),
         Err(error) => {
-            let (target, selection) = (&words.target, &words.selection);
+            let (target, selection) = (&args.target, &args.selection);
             Err(explain_set_version(
                 alloc,
                 error,
@@ -58,12 +58,12 @@ pub(crate) fn plan_for(
 
 /// The outputs to write: none with a dry run.
 pub(crate) fn outputs_to_write<'a>(
-    words: &SetVersionArgs<'_>,
+    args: &SetVersionArgs<'_>,
     plan: &'a SetVersionPlan,
 ) -> &'a [Output]
-    ensures { result.now ≡ outputs_to_write words.now plan.entry.now.outputs.items }
+    ensures { result.now ≡ outputs_to_write args.now plan.entry.now.outputs.items }
 {
-    if words.dry_run {
+    if args.dry_run {
         &[]
     } else {
         plan.outputs.as_slice()

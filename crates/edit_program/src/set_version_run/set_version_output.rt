@@ -4,7 +4,7 @@ ghost use Rattle.std.specs.Io.KnownBytes.{Appends};
 ghost use Rattle.edit_base.specs.Errors.{IsMemory};
 ghost use Rattle.edit_base.specs.declared.errors.Error.TheVariants.{Output};
 ghost use Rattle.edit_set_version.specs.Planned.{plan_lines_view};
-ghost use Rattle.edit_set_version.specs.ToldLines.{report_line_view};
+ghost use Rattle.edit_set_version.specs.LineViews.{report_line_view};
 ghost use Rattle.edit_program.specs.Printed.{diffs_if, messages_in, set_version_stdout_text, statuses, statuses_in, warning_if};
 
 use crate::set_version_run::set_version_args::SetVersionArgs;
@@ -64,17 +64,17 @@ fn print_lines_in<O: io::Write, E: io::Write>(
 /// Prints the diffs of the manifests, where they are requested.
 fn print_diffs_if<O: io::Write>(
     alloc: Global,
-    asked: bool,
+    wants_diff: bool,
     root: &str,
     inputs: &[Input],
     plan: &SetVersionPlan,
     out: &mut O,
 ) -> CargoResult<()>
     ensures text { OnOk result (Appends (O.contents out.old) (O.contents out.new)
-        (diffs_if asked root.now inputs.now plan.now.outputs.items)) }
+        (diffs_if wants_diff root.now inputs.now plan.now.outputs.items)) }
     ensures error { IfErr result (λ e. IsMemory e ⊎ (e ≡ Output)) }
 {
-    if asked {
+    if wants_diff {
         print_diffs(alloc, root, inputs, plan.outputs.as_slice(), out)
     } else {
         Ok(())
@@ -84,7 +84,7 @@ fn print_diffs_if<O: io::Write>(
 /// Prints a plan in the requested format: its lines, and the diffs of the manifests.
 pub(crate) fn print_plan<O: io::Write, E: io::Write>(
     alloc: Global,
-    words: &SetVersionArgs<'_>,
+    args: &SetVersionArgs<'_>,
     root: &str,
     inputs: &[Input],
     plan: &SetVersionPlan,
@@ -92,12 +92,12 @@ pub(crate) fn print_plan<O: io::Write, E: io::Write>(
     err: &mut E,
 ) -> CargoResult<()>
     ensures shown { OnOk result (Appends (O.contents out.old) (O.contents out.new)
-        (set_version_stdout_text words.now root.now inputs.now plan.now)) }
+        (set_version_stdout_text args.now root.now inputs.now plan.now)) }
     ensures outcome { OnOk result (Appends (E.contents err.old) (E.contents err.new)
-        (statuses_in words.now.presentation.format (plan_lines_view plan.now))) }
+        (statuses_in args.now.presentation.format (plan_lines_view plan.now))) }
     ensures error { IfErr result (λ e. IsMemory e ⊎ (e ≡ Output)) }
 {
-    let format = words.presentation.format;
+    let format = args.presentation.format;
     print_lines_in(alloc, format, plan.lines.as_slice(), out, err)?;
-    print_diffs_if(alloc, words.presentation.diff, root, inputs, plan, out)
+    print_diffs_if(alloc, args.presentation.diff, root, inputs, plan, out)
 }

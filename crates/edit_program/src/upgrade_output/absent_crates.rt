@@ -31,24 +31,24 @@ fn set_of<'a>(alloc: Global, names: &'a [String]) -> Result<BTreeSet<&'a str>, A
 }
 
 /// Whether a crate that is not excluded was not found in the index.
-fn is_absent(excluded: &BTreeSet<&str>, look: &Look) -> bool
-    ensures { result ≡ spec.is_absent (holds excluded.now) look.now }
+fn is_absent(excluded: &BTreeSet<&str>, lookup: &Look) -> bool
+    ensures { result ≡ spec.is_absent (holds excluded.now) lookup.now }
 {
-    look.answer.is_none() && !excluded.contains(look.name.as_str())
+    lookup.answer.is_none() && !excluded.contains(lookup.name.as_str())
 }
 
 /// Appends the name of a crate, where it was not found in the index and is not excluded.
 fn push_absent(
     alloc: Global,
     excluded: &BTreeSet<&str>,
-    look: &Look,
+    lookup: &Look,
     names: &mut Vec<String>,
 ) -> Result<(), AllocError>
     ensures { OnOk result (map string_bytes names.new.items
-        ≡ map string_bytes names.old.items ++ spec.absent_at (holds excluded.now) look.now) }
+        ≡ map string_bytes names.old.items ++ spec.absent_at (holds excluded.now) lookup.now) }
 {
-    if is_absent(excluded, look) {
-        names.push(String::from_str(alloc, look.name.as_str())?)?;
+    if is_absent(excluded, lookup) {
+        names.push(String::from_str(alloc, lookup.name.as_str())?)?;
     }
     Ok(())
 }
@@ -58,15 +58,15 @@ fn push_absent(
 fn absent_names(
     alloc: Global,
     exclude: &[String],
-    looks: &[Look],
+    lookups: &[Look],
 ) -> Result<Vec<String>, AllocError>
     ensures { IfOk result (λ v. map string_bytes v.items
-        ≡ spec.absent_names (is_among (map string_bytes exclude.now)) looks.now) }
+        ≡ spec.absent_names (is_among (map string_bytes exclude.now)) lookups.now) }
 {
     let excluded = set_of(alloc, exclude)?;
     let mut names = Vec::new(alloc);
-    for look in looks {
-        push_absent(alloc, &excluded, look, &mut names)?;
+    for lookup in lookups {
+        push_absent(alloc, &excluded, lookup, &mut names)?;
     }
     Ok(names)
 }
@@ -103,9 +103,9 @@ fn absent_text(alloc: Global, names: &[String]) -> Result<String, AllocError>
     ensures { IfOk result (λ s. string_bytes s ≡ spec.absent_text (map string_bytes names.now)) }
 {
     let count = names.len();
-    let word = crate_or_crates(count);
+    let noun = crate_or_crates(count);
     let list = abbreviate_names(alloc, names)?;
-    format!(in alloc; "no index entry was found for {count} {word}: {list}")
+    format!(in alloc; "no index entry was found for {count} {noun}: {list}")
 }
 
 /// Prints the note about crates that were not found in the index, where there are any. Offline nothing is
@@ -125,8 +125,8 @@ pub(crate) fn print_absent<E: io::Write>(
         return Ok(());
     }
     let exclude = options.exclude.as_slice();
-    let looks = plan.looks.as_slice();
-    let names = absent_names(alloc, exclude, looks)?;
+    let lookups = plan.looks.as_slice();
+    let names = absent_names(alloc, exclude, lookups)?;
     if names.is_empty() {
         return Ok(());
     }

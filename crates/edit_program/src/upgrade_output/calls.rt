@@ -7,7 +7,7 @@ ghost use Rattle.edit_base.specs.declared.errors.Error.TheVariants.{Output};
 ghost use Rattle.edit_lock.specs.Views.{lock_view};
 ghost use Rattle.edit_metadata.specs.Workspaces.{workspace_view};
 ghost use Rattle.edit_upgrade.specs.ParsedOptions.{call_options, is_due};
-ghost use Rattle.edit_upgrade.specs.WordCauses.{FailsAtPackageArg};
+ghost use Rattle.edit_upgrade.specs.OptionCauses.{FailsAtPackageArg};
 ghost use Rattle.edit_upgrade.specs.Views.{calls_view, args_view};
 ghost use Rattle.edit_program.specs.Delivery.{calls_against, calls_of};
 ghost use Rattle.edit_program.specs.StderrText.{call_status, call_statuses};
@@ -56,11 +56,11 @@ pub(crate) fn calls_against(
 }
 
 /// Arguments, joined by spaces.
-fn join_args(alloc: Global, words: &[String]) -> Result<String, AllocError>
+fn join_args(alloc: Global, args: &[String]) -> Result<String, AllocError>
     ensures { IfOk result (λ s. string_bytes s
-        ≡ join_by (λ word. word) (codes " ") (args_view words.now)) }
+        ≡ join_by (λ arg. arg) (codes " ") (args_view args.now)) }
 {
-    words.join(alloc, " ")
+    args.join(alloc, " ")
 }
 
 /// Prints a call.
@@ -69,8 +69,8 @@ fn print_call<E: io::Write>(alloc: Global, call: &[String], err: &mut E) -> Carg
         (call_status (args_view call.now))) }
     ensures error { IfErr result (λ e. IsMemory e ⊎ (e ≡ Output)) }
 {
-    let words = join_args(alloc, call)?;
-    shell_status(err, "Run", words.as_str())
+    let args = join_args(alloc, call)?;
+    shell_status(err, "Run", args.as_str())
 }
 
 /// Prints calls, each as a status line with its arguments.

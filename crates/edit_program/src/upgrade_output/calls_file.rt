@@ -11,10 +11,10 @@ use edit_upgrade::Options;
 use std::alloc::{AllocError, Global};
 
 /// Appends an argument as a line.
-fn push_arg_line(text: &mut Vec<u8>, word: &str) -> Result<(), AllocError>
-    ensures { OnOk result (text.new.items ≡ text.old.items ++ arg_line word.now) }
+fn push_arg_line(text: &mut Vec<u8>, arg: &str) -> Result<(), AllocError>
+    ensures { OnOk result (text.new.items ≡ text.old.items ++ arg_line arg.now) }
 {
-    text.extend_from_slice(word.as_bytes())?;
+    text.extend_from_slice(arg.as_bytes())?;
     text.push(b'\n')?;
     Ok(())
 }
@@ -23,8 +23,8 @@ fn push_arg_line(text: &mut Vec<u8>, word: &str) -> Result<(), AllocError>
 fn push_call(text: &mut Vec<u8>, call: &[String]) -> Result<(), AllocError>
     ensures { OnOk result (text.new.items ≡ text.old.items ++ call_lines (args_view call.now)) }
 {
-    for word in call {
-        push_arg_line(text, word.as_str())?;
+    for arg in call {
+        push_arg_line(text, arg.as_str())?;
     }
     text.push(b'\n')?;
     Ok(())

@@ -3,7 +3,7 @@ ghost use Rattle.std.specs.Prelude.{◌≡◌, ◌≤◌, ◌⊎◌, IfErr, OnEr
 ghost use Rattle.std.specs.Io.KnownBytes.{Appends};
 ghost use Rattle.edit_report.specs.Applied.{HaveDistinctPaths};
 ghost use Rattle.edit_store.specs.Store.{SameFiles};
-ghost use Rattle.edit_program.specs.TellingCauses.{IsDeliveryCause};
+ghost use Rattle.edit_program.specs.DeliveryCauses.{IsDeliveryCause};
 ghost use Rattle.edit_program.specs.Delivered.{IsDeliveryInterrupted, IsDelivered};
 ghost use Rattle.edit_program.specs.Delivery.{delivery_of};
 ghost use Rattle.edit_program.specs.StderrText.{AreWarningsInOrder, upgrade_stderr_text};

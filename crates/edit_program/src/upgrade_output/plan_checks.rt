@@ -2,7 +2,7 @@
 ghost use Rattle.std.specs.Prelude.{◌≡◌, ◌≢◌, ◌⊎◌, [], IfErr, IfOk, OnOk, map, string_bytes, true};
 ghost use Rattle.edit_base.specs.declared.errors.Error.TheVariants.{Locked};
 ghost use Rattle.edit_base.specs.Errors.{IsMemory};
-ghost use Rattle.edit_program.specs.TellingCauses.{AreListedIn};
+ghost use Rattle.edit_program.specs.DeliveryCauses.{AreListedIn};
 ghost use Rattle.edit_program.specs.Delivered.{upgrade_outputs_to_write};
 
 use edit_base::{CargoResult, Error, MissingKind, MissingNames};

@@ -7,7 +7,7 @@ ghost use Rattle.edit_base.specs.declared.errors.Error.TheVariants.{Output as Un
 ghost use Rattle.edit_report.specs.Applied.{HaveDistinctPaths};
 ghost use Rattle.edit_store.specs.Store.{IsCallError};
 ghost use Rattle.edit_upgrade.specs.Views.{calls_view};
-ghost use Rattle.edit_program.specs.TellingCauses.{AreListedIn};
+ghost use Rattle.edit_program.specs.DeliveryCauses.{AreListedIn};
 ghost use Rattle.edit_program.specs.Delivered.{AreBothWritten, HaveStopped};
 ghost use Rattle.edit_program.specs.StderrText.{notes, call_statuses};
 

@@ -48,14 +48,14 @@ fn diff_root<'a>(workspace: Option<&'a Workspace>, current: &'a str) -> &'a str
 /// How the plan for these manifests is printed and written, from the arguments. `update_calls` is the path
 /// of the file for the calls, which are adapted to the lock file where there is one.
 pub(crate) fn delivery_task<'a>(
-    words: &'a UpgradeArgs<'_>,
+    args: &'a UpgradeArgs<'_>,
     current: &'a str,
     target: &'a Target,
     plan: &'a UpgradePlan,
     path: Option<&'a str>,
     lock: Option<&'a Lock>,
 ) -> DeliveryTask<'a>
-    ensures { delivery_of result ≡ delivery_by words.entry.now current.now plan.entry.now target.entry.now
+    ensures { delivery_of result ≡ delivery_by args.entry.now current.now plan.entry.now target.entry.now
         (given path.entry) (option_map (λ l. lock_view l.now) lock.entry) }
 {
     let workspace = target.workspace.as_ref();
@@ -63,12 +63,12 @@ pub(crate) fn delivery_task<'a>(
         plan,
         inputs: target.inputs.as_slice(),
         workspace,
-        options: &words.options,
+        options: &args.options,
         root: diff_root(workspace, current),
-        presentation: words.presentation,
+        presentation: args.presentation,
         update_calls: path,
         lock,
-        offline: words.offline,
+        offline: args.offline,
     }
 }
 

@@ -71,32 +71,32 @@ fn read_lock<S: Store>(
     };
     match read_lock_at(alloc, named, current, files) {
         Ok(lock) => Ok(Some(lock)),
-        Err(refusal) => Err(refusal),
+        Err(failure) => Err(failure),
     }
 }
 
 /// Reads the given lock file, and then the files that the upgrade depends on. No file changes.
 pub(crate) fn read<S: Store>(
     alloc: Global,
-    words: &UpgradeArgs<'_>,
+    args: &UpgradeArgs<'_>,
     current: &str,
     cargo_home: Option<&str>,
     files: &mut S,
 ) -> RunResult<Readings>
     ensures store { OnlyReads (S.view files.old) (S.view files.new) }
     ensures read { IfOk result (λ r. (S.view files.old).tells ≡ true
-        → IsRead words.now current.now (given cargo_home.entry) (S.view files.old).file_at r.sources) }
+        → IsRead args.now current.now (given cargo_home.entry) (S.view files.old).file_at r.sources) }
     ensures locked { IfOk result (λ r. (S.view files.old).tells ≡ true
-        → IsLockRead (S.view files.old).file_at current.now (given words.now.lock_file)
+        → IsLockRead (S.view files.old).file_at current.now (given args.now.lock_file)
         (option_map lock_view r.lock)) }
     ensures planned { IfOk result (λ r. MayBePlanned r.sources) }
-    ensures error { IfErr result (λ r. IsReadCause current.now (given cargo_home.entry) (to_request words.now)
+    ensures error { IfErr result (λ r. IsReadCause current.now (given cargo_home.entry) (to_request args.now)
         (S.view files.old) (S.view files.new) r.error
         ⊎ ((S.view files.old).tells ≡ true
-        → HasNoLock (S.view files.old).file_at current.now (given words.now.lock_file) r.error)) }
+        → HasNoLock (S.view files.old).file_at current.now (given args.now.lock_file) r.error)) }
     ensures counted { IfErr result (λ r. CountsFault (S.view files.old) (S.view files.new) r.error) }
 {
-    let lock = read_lock(alloc, words.lock_file, current, files)?;
-    let sources = read_sources(alloc, &words.to_request(), current, cargo_home, files)?;
+    let lock = read_lock(alloc, args.lock_file, current, files)?;
+    let sources = read_sources(alloc, &args.to_request(), current, cargo_home, files)?;
     Ok(Readings { sources, lock })
 }

@@ -25,7 +25,7 @@ use std::io;
 /// Returns whether the plan changes a manifest. No file changes before the plan is made and printed.
 pub fn upgrade<S: Store, T: Store + Drop, O: io::Write, E: io::Write>(
     alloc: Global,
-    words: &UpgradeArgs<'_>,
+    args: &UpgradeArgs<'_>,
     place: &RunFolders<'_>,
     files: &mut S,
     index_files: T,
@@ -35,18 +35,18 @@ pub fn upgrade<S: Store, T: Store + Drop, O: io::Write, E: io::Write>(
     ensures tells { (S.view files.new).tells ≡ (S.view files.old).tells }
     ensures done { IfOk result (λ due. (S.view files.old).tells ≡ true
         → IsUpgraded due (Appends (O.contents out.old) (O.contents out.new))
-        (Appends (E.contents err.old) (E.contents err.new)) words.now
+        (Appends (E.contents err.old) (E.contents err.new)) args.now
         (run_at place.now.current.now (given place.now.cargo_home)
         (T.view index_files) (S.view files.old) (S.view files.new))) }
     // an error before the first write leaves each file as it was
     ensures error { OnErr result ((S.view files.old).tells ≡ true
         → SameFiles (S.view files.old).file_at (S.view files.new).file_at
-        ⊎ IsBroken (Appends (O.contents out.old) (O.contents out.new)) words.now
+        ⊎ IsBroken (Appends (O.contents out.old) (O.contents out.new)) args.now
         (run_at place.now.current.now (given place.now.cargo_home)
         (T.view index_files) (S.view files.old) (S.view files.new))) }
     // each error has its cause, with what that leaves of the files
     ensures why { IfErr result (λ r. IsUpgradeCause (Appends (O.contents out.old) (O.contents out.new))
-        words.now
+        args.now
         (run_at place.now.current.now (given place.now.cargo_home)
         (T.view index_files) (S.view files.old) (S.view files.new)) r.error) }
     // over any stores, an error of a device is counted
@@ -54,26 +54,26 @@ pub fn upgrade<S: Store, T: Store + Drop, O: io::Write, E: io::Write>(
         (S.view files.old) (S.view files.new) r.error) }
 {
     let current = place.current;
-    let named = path_of(alloc, current, words.update_calls)?;
-    let readings = read(alloc, words, current, place.cargo_home, files)?;
+    let named = path_of(alloc, current, args.update_calls)?;
+    let readings = read(alloc, args, current, place.cargo_home, files)?;
     let Readings { sources, lock } = readings;
     let Sources {
         target,
         configs,
         index,
     } = sources;
-    let options = &words.options;
+    let options = &args.options;
     let plan = match plan_for(alloc, options, &target, &configs, index, index_files) {
         Ok(plan) => plan,
         Err(error) => {
-            let asked = words.to_request();
+            let request = args.to_request();
             let inputs = &target.inputs;
-            return Err(explain_upgrade(alloc, error, &asked, current, inputs, &configs, files));
+            return Err(explain_upgrade(alloc, error, &request, current, inputs, &configs, files));
         }
     };
     let path = named.as_deref();
     let lock = lock.as_ref();
-    let task = delivery_task(words, current, &target, &plan, path, lock);
+    let task = delivery_task(args, current, &target, &plan, path, lock);
     match deliver(alloc, &task, files, out, err) {
         Ok(()) => Ok(has_outputs(&plan)),
         Err(error) => Err(explain_delivery(alloc, error, &plan)),

@@ -5,7 +5,7 @@
 /// a third field, the text afterwards, and the rows are in the order in which they are written.
 #[derive(Clone, Copy)]
 pub(super) struct Example {
-    pub(super) words: &'static str,
+    pub(super) args: &'static str,
     pub(super) manifests: &'static str,
     pub(super) others: &'static str,
     pub(super) index: &'static str,
@@ -16,7 +16,7 @@ pub(super) struct Example {
 }
 
 pub(super) const WORKSPACE: Example = Example {
-    words: "upgrade --metadata-json metadata.json",
+    args: "upgrade --metadata-json metadata.json",
     manifests: RAISED,
     others: OF_RAISED,
     index: INDEX,
@@ -25,7 +25,7 @@ pub(super) const WORKSPACE: Example = Example {
 };
 
 pub(super) const VERSIONS: Example = Example {
-    words: "set-version --bump minor --workspace --metadata-json metadata.json",
+    args: "set-version --bump minor --workspace --metadata-json metadata.json",
     manifests: BUMPED,
     others: OF_BUMPED,
     index: "/w/index|",

@@ -9,51 +9,51 @@ use crate::diff::line_diff::LineKind;
 const CONTEXT: usize = 3;
 
 /// Whether a line changes within three lines of this one, or this one does.
-pub(crate) fn is_shown(marks: &[LineKind], i: usize) -> bool
-    requires { i < length marks.now }
-    ensures { result ≡ is_shown marks.now i }
+pub(crate) fn is_shown(kinds: &[LineKind], i: usize) -> bool
+    requires { i < length kinds.now }
+    ensures { result ≡ is_shown kinds.now i }
 {
     let from = i.saturating_sub(CONTEXT);
-    let to = if marks.len() - i > CONTEXT {
+    let to = if kinds.len() - i > CONTEXT {
         i + CONTEXT + 1
     } else {
-        marks.len()
+        kinds.len()
     };
-    marks[from..to]
+    kinds[from..to]
         .iter()
-        .any(|mark| *mark != LineKind::Context)
+        .any(|kind| *kind != LineKind::Context)
 }
 
 /// The number of consecutive lines that are shown, from one on.
-pub(crate) fn part_length(marks: &[LineKind], i: usize) -> usize
-    requires { i ≤ length marks.now }
-    ensures same { result ≡ leading (drop i (shown_lines marks.now)) }
-    ensures within { i + result ≤ length marks.now }
+pub(crate) fn part_length(kinds: &[LineKind], i: usize) -> usize
+    requires { i ≤ length kinds.now }
+    ensures same { result ≡ leading (drop i (shown_lines kinds.now)) }
+    ensures within { i + result ≤ length kinds.now }
 {
-    for j in i..marks.len() {
-        if !is_shown(marks, j) {
+    for j in i..kinds.len() {
+        if !is_shown(kinds, j) {
             return j - i;
         }
     }
-    marks.len() - i
+    kinds.len() - i
 }
 
 /// The number of lines of the old text.
-pub(crate) fn count_old(marks: &[LineKind]) -> usize
-    ensures { result ≡ count_by is_old marks.now }
+pub(crate) fn count_old(kinds: &[LineKind]) -> usize
+    ensures { result ≡ count_by is_old kinds.now }
 {
-    marks
+    kinds
         .iter()
-        .filter(|mark| **mark != LineKind::Added)
+        .filter(|kind| **kind != LineKind::Added)
         .count()
 }
 
 /// The number of lines of the new text.
-pub(crate) fn count_new(marks: &[LineKind]) -> usize
-    ensures { result ≡ count_by is_new marks.now }
+pub(crate) fn count_new(kinds: &[LineKind]) -> usize
+    ensures { result ≡ count_by is_new kinds.now }
 {
-    marks
+    kinds
         .iter()
-        .filter(|mark| **mark != LineKind::Removed)
+        .filter(|kind| **kind != LineKind::Removed)
         .count()
 }

@@ -19,10 +19,10 @@ fn ends_with_feed(line: &[u8]) -> bool
 }
 
 /// The character before a line with this mark: space, `-` or `+`.
-fn sign(mark: LineKind) -> u8
-    ensures { result ≡ spec.sign mark }
+fn sign(kind: LineKind) -> u8
+    ensures { result ≡ spec.sign kind }
 {
-    match mark {
+    match kind {
         LineKind::Context => b' ',
         LineKind::Removed => b'-',
         LineKind::Added => b'+',
@@ -41,10 +41,10 @@ fn note(line: &[u8]) -> &'static str
 }
 
 /// Appends a line, after the character of its mark.
-fn push_line(text: &mut Vec<u8>, mark: LineKind, line: &[u8]) -> Result<(), AllocError>
-    ensures ok { OnOk result (text.new.items ≡ text.old.items ++ spec.line_text mark line.now) }
+fn push_line(text: &mut Vec<u8>, kind: LineKind, line: &[u8]) -> Result<(), AllocError>
+    ensures ok { OnOk result (text.new.items ≡ text.old.items ++ spec.line_text kind line.now) }
 {
-    text.push(sign(mark))?;
+    text.push(sign(kind))?;
     text.extend_from_slice(line)?;
     text.extend_from_slice(note(line).as_bytes())?;
     Ok(())
@@ -95,13 +95,13 @@ struct LineCounts {
 
 impl LineCounts {
     /// The counts after a line with this mark.
-    fn counts_after(self, mark: LineKind) -> LineCounts
+    fn counts_after(self, kind: LineKind) -> LineCounts
         requires old { self.old + 1 < 2 ^ 64 }
         requires new { self.new + 1 < 2 ^ 64 }
-        ensures old { result.old ≡ self.old + (if is_old mark then 1 else 0) }
-        ensures new { result.new ≡ self.new + (if is_new mark then 1 else 0) }
+        ensures old { result.old ≡ self.old + (if is_old kind then 1 else 0) }
+        ensures new { result.new ≡ self.new + (if is_new kind then 1 else 0) }
     {
-        match mark {
+        match kind {
             LineKind::Context => LineCounts {
                 old: self.old + 1,
                 new: self.new + 1,
@@ -139,11 +139,11 @@ fn push_hunk_header(
 }
 
 /// Whether a hunk begins at a line that is shown.
-fn begins(marks: &[LineKind], i: usize) -> bool
-    requires { i < length marks.now }
-    ensures { result ≡ spec.begins marks.now i }
+fn begins(kinds: &[LineKind], i: usize) -> bool
+    requires { i < length kinds.now }
+    ensures { result ≡ spec.begins kinds.now i }
 {
-    i == 0 || !is_shown(marks, i - 1)
+    i == 0 || !is_shown(kinds, i - 1)
 }
 
 /// Appends the header of a hunk where one begins at a line that is shown. `before` counts the lines before
@@ -151,18 +151,18 @@ fn begins(marks: &[LineKind], i: usize) -> bool
 fn push_hunk_header_at(
     alloc: Global,
     text: &mut Vec<u8>,
-    marks: &[LineKind],
+    kinds: &[LineKind],
     before: LineCounts,
     i: usize,
 ) -> Result<(), AllocError>
-    requires within { i < length marks.now }
-    requires counted { AreCounted (take i marks.now) before.old before.new }
-    ensures ok { OnOk result (text.new.items ≡ text.old.items ++ spec.hunk_header_before marks.now i) }
+    requires within { i < length kinds.now }
+    requires counted { AreCounted (take i kinds.now) before.old before.new }
+    ensures ok { OnOk result (text.new.items ≡ text.old.items ++ spec.hunk_header_before kinds.now i) }
 {
-    if !begins(marks, i) {
+    if !begins(kinds, i) {
         return Ok(());
     }
-    let part = &marks[i..i + part_length(marks, i)];
+    let part = &kinds[i..i + part_length(kinds, i)];
     push_hunk_header(alloc, text, before, part)
 }
 
@@ -170,39 +170,39 @@ fn push_hunk_header_at(
 fn push_at(
     alloc: Global,
     text: &mut Vec<u8>,
-    marks: &[LineKind],
+    kinds: &[LineKind],
     lines: &[&[u8]],
     before: LineCounts,
     i: usize,
 ) -> Result<(), AllocError>
-    requires within { i < length marks.now }
-    requires lines { length lines.now ≡ length marks.now }
-    requires counted { AreCounted (take i marks.now) before.old before.new }
+    requires within { i < length kinds.now }
+    requires lines { length lines.now ≡ length kinds.now }
+    requires counted { AreCounted (take i kinds.now) before.old before.new }
     ensures ok { OnOk result (text.new.items
-        ≡ text.old.items ++ spec.text_at marks.now (map (λ l. l.now) lines.now) i) }
+        ≡ text.old.items ++ spec.text_at kinds.now (map (λ l. l.now) lines.now) i) }
 {
-    if !is_shown(marks, i) {
+    if !is_shown(kinds, i) {
         return Ok(());
     }
-    push_hunk_header_at(alloc, text, marks, before, i)?;
-    push_line(text, marks[i], lines[i])
+    push_hunk_header_at(alloc, text, kinds, before, i)?;
+    push_line(text, kinds[i], lines[i])
 }
 
 /// Appends the hunks of a diff.
 pub(crate) fn push_parts(
     alloc: Global,
     text: &mut Vec<u8>,
-    marks: &[LineKind],
+    kinds: &[LineKind],
     lines: &[&[u8]],
 ) -> Result<(), AllocError>
-    requires { length lines.now ≡ length marks.now }
+    requires { length lines.now ≡ length kinds.now }
     ensures ok { OnOk result (text.new.items
-        ≡ text.old.items ++ spec.parts_text marks.now (map (λ l. l.now) lines.now)) }
+        ≡ text.old.items ++ spec.parts_text kinds.now (map (λ l. l.now) lines.now)) }
 {
     let mut before = LineCounts { old: 0, new: 0 };
-    for i in 0..marks.len() {
-        push_at(alloc, text, marks, lines, before, i)?;
-        before = before.counts_after(marks[i]);
+    for i in 0..kinds.len() {
+        push_at(alloc, text, kinds, lines, before, i)?;
+        before = before.counts_after(kinds[i]);
     }
     Ok(())
 }

@@ -15,18 +15,18 @@ pub enum LineKind {
 /// Lines with their marks.
 #[derive(Drop)]
 pub(crate) struct DiffLines<'a> {
-    pub(crate) marks: Vec<LineKind>,
+    pub(crate) kinds: Vec<LineKind>,
     pub(crate) lines: Vec<&'a [u8]>,
 }
 
 impl<'a> DiffLines<'a> {
     /// Appends a line and its mark.
-    fn push(&mut self, mark: LineKind, line: &'a [u8]) -> Result<(), AllocError>
-        ensures marks { OnOk result (self.new.marks.items ≡ self.old.marks.items ++ mark ∷ []) }
+    fn push(&mut self, kind: LineKind, line: &'a [u8]) -> Result<(), AllocError>
+        ensures kinds { OnOk result (self.new.kinds.items ≡ self.old.kinds.items ++ kind ∷ []) }
         ensures lines { OnOk result (map (λ l. l.now) self.new.lines.items
             ≡ map (λ l. l.now) self.old.lines.items ++ line.now ∷ []) }
     {
-        self.marks.push(mark)?;
+        self.kinds.push(kind)?;
         self.lines.push(line)?;
         Ok(())
     }
@@ -34,7 +34,7 @@ impl<'a> DiffLines<'a> {
     /// Appends the lines at the same index of two texts: one unchanged line where they are equal, else the
     /// removed and the added one.
     fn push_at(&mut self, old: Option<&'a [u8]>, new: Option<&'a [u8]>) -> Result<(), AllocError>
-        ensures marks { OnOk result (self.new.marks.items ≡ self.old.marks.items
+        ensures kinds { OnOk result (self.new.kinds.items ≡ self.old.kinds.items
             ++ line_kinds (compare_lines_at (option_map (λ l. l.now) old.entry)
             (option_map (λ l. l.now) new.entry))) }
         ensures lines { OnOk result (map (λ l. l.now) self.new.lines.items
@@ -77,17 +77,17 @@ pub(crate) fn compare_lines<'a>(
     olds: &[&'a [u8]],
     news: &[&'a [u8]],
 ) -> Result<DiffLines<'a>, AllocError>
-    ensures marks { IfOk result (λ m. m.marks.items
+    ensures kinds { IfOk result (λ m. m.kinds.items
         ≡ line_kinds (compare_lines (map (λ l. l.now) olds.now) (map (λ l. l.now) news.now))) }
     ensures lines { IfOk result (λ m. map (λ l. l.now) m.lines.items
         ≡ lines_in (compare_lines (map (λ l. l.now) olds.now) (map (λ l. l.now) news.now))) }
 {
-    let mut marked = DiffLines {
-        marks: Vec::new(alloc),
+    let mut diff_lines = DiffLines {
+        kinds: Vec::new(alloc),
         lines: Vec::new(alloc),
     };
     for i in 0..olds.len().max(news.len()) {
-        marked.push_at(line_at(olds, i), line_at(news, i))?;
+        diff_lines.push_at(line_at(olds, i), line_at(news, i))?;
     }
-    Ok(marked)
+    Ok(diff_lines)
 }

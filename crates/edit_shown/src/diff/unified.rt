@@ -33,8 +33,8 @@ fn push_changes(alloc: Global, text: &mut Vec<u8>, old: &[u8], new: &[u8]) -> Re
 {
     let olds = lines_of(alloc, old)?;
     let news = lines_of(alloc, new)?;
-    let marked = compare_lines(alloc, &olds, &news)?;
-    push_parts(alloc, text, &marked.marks, &marked.lines)
+    let diff_lines = compare_lines(alloc, &olds, &news)?;
+    push_parts(alloc, text, &diff_lines.kinds, &diff_lines.lines)
 }
 
 /// The unified diff of two texts of a file, with three lines of context; empty where the texts are equal.

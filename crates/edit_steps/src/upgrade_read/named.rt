@@ -65,23 +65,23 @@ fn read_file<S: Store>(
 /// Reads the given configuration files.
 pub(crate) fn read_named<S: Store>(
     alloc: Global,
-    asked: &SourceRequest<'_>,
+    request: &SourceRequest<'_>,
     current: &str,
     files: &mut S,
 ) -> RunResult<NamedFiles>
     ensures store { OnlyReads (S.view files.old) (S.view files.new) }
     ensures read { IfOk result (λ n. (S.view files.old).tells ≡ true → ArePairRead
-        (S.view files.old).file_at current.now (request_view asked.now) (pair_of n)) }
+        (S.view files.old).file_at current.now (request_view request.now) (pair_of n)) }
     ensures error { IfErr result (λ r. IsCallError call.Read (S.view files.old) (S.view files.new) r.error
         ⊎ ((S.view files.old).tells ≡ true
-        → LacksNamed (S.view files.old).file_at current.now (request_view asked.now) r.error)) }
+        → LacksNamed (S.view files.old).file_at current.now (request_view request.now) r.error)) }
     ensures counted { IfErr result (λ r. CountsFault (S.view files.old) (S.view files.new) r.error) }
     // over any store
     ensures only { IfErr result (λ r. IsCallError call.Read (S.view files.old) (S.view files.new) r.error
-        ⊎ IsPairError (request_view asked.now) r.error) }
+        ⊎ IsPairError (request_view request.now) r.error) }
 {
-    let first = read_file(alloc, asked.config, current, files)?;
-    let last = read_file(alloc, asked.default_config, current, files)?;
+    let first = read_file(alloc, request.config, current, files)?;
+    let last = read_file(alloc, request.default_config, current, files)?;
     Ok(NamedFiles { first, last })
 }
 

@@ -33,7 +33,7 @@ pub struct Sources {
 /// index file. Nothing is read from an index folder, and no file changes.
 pub fn read_sources<S: Store>(
     alloc: Global,
-    asked: &SourceRequest<'_>,
+    request: &SourceRequest<'_>,
     current: &str,
     cargo_home: Option<&str>,
     files: &mut S,
@@ -41,20 +41,20 @@ pub fn read_sources<S: Store>(
     ensures store { OnlyReads (S.view files.old) (S.view files.new) }
     ensures read { IfOk result (λ s. (S.view files.old).tells ≡ true
         → AreRead (S.view files.old).file_at current.now (given cargo_home.entry)
-        (request_view asked.now) s) }
+        (request_view request.now) s) }
     // and what a plan requires, over any store
     ensures planned { IfOk result MayBePlanned }
     ensures error { IfErr result (λ r. IsReadCause current.now (given cargo_home.entry)
-        (request_view asked.now) (S.view files.old) (S.view files.new) r.error) }
+        (request_view request.now) (S.view files.old) (S.view files.new) r.error) }
     ensures counted { IfErr result (λ r. CountsFault (S.view files.old) (S.view files.new) r.error) }
     // over any store
     ensures only { IfErr result (λ r. IsFailure (S.view files.old) (S.view files.new) r.error
-        ⊎ IsSourceError current.now (request_view asked.now) r.error) }
+        ⊎ IsSourceError current.now (request_view request.now) r.error) }
 {
-    let target = read_target(alloc, asked, current, files)?;
-    let named = read_named(alloc, asked, current, files)?;
+    let target = read_target(alloc, request, current, files)?;
+    let named = read_named(alloc, request, current, files)?;
     let configs = read_configurations(alloc, &named, &target.inputs, cargo_home, files)?;
-    let index = read_index(alloc, asked.index_file, asked.index_dir, current, files)?;
+    let index = read_index(alloc, request.index_file, request.index_dir, current, files)?;
     Ok(Sources {
         target,
         configs,

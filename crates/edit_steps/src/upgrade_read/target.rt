@@ -47,27 +47,27 @@ fn target_of_manifest(alloc: Global, manifest: ReadManifest) -> Result<Target, A
 /// Reads the workspace of the given metadata, else the nearest manifest.
 pub(crate) fn read_target<S: Store>(
     alloc: Global,
-    asked: &SourceRequest<'_>,
+    request: &SourceRequest<'_>,
     current: &str,
     files: &mut S,
 ) -> RunResult<Target>
     ensures store { OnlyReads (S.view files.old) (S.view files.new) }
     ensures read { IfOk result (λ t. (S.view files.old).tells ≡ true
-        → IsTargetRead (S.view files.old).file_at current.now (request_view asked.now) t) }
+        → IsTargetRead (S.view files.old).file_at current.now (request_view request.now) t) }
     ensures paths { IfOk result (λ t. HaveOwnPaths t.inputs.items) }
     ensures documents { IfOk result (λ t. AreDocuments t.documents.items t.inputs.items) }
     ensures error { IfErr result (λ r. IsFailure (S.view files.old) (S.view files.new) r.error
         ⊎ ((S.view files.old).tells ≡ true
-        → HasNoTarget (S.view files.old).file_at current.now (request_view asked.now) r.error)) }
+        → HasNoTarget (S.view files.old).file_at current.now (request_view request.now) r.error)) }
     ensures counted { IfErr result (λ r. CountsFault (S.view files.old) (S.view files.new) r.error) }
     // over any store
     ensures only { IfErr result (λ r. IsFailure (S.view files.old) (S.view files.new) r.error
-        ⊎ IsTargetError current.now (request_view asked.now).metadata
-        (request_view asked.now).manifest r.error) }
+        ⊎ IsTargetError current.now (request_view request.now).metadata
+        (request_view request.now).manifest r.error) }
 {
-    let (rust, writes) = (asked.rust, asked.writes);
-    let Some(named) = asked.metadata_json else {
-        let manifest = read_manifest(alloc, asked.manifest_path, current, rust, writes, files)?;
+    let (rust, writes) = (request.rust, request.writes);
+    let Some(named) = request.metadata_json else {
+        let manifest = read_manifest(alloc, request.manifest_path, current, rust, writes, files)?;
         return Ok(target_of_manifest(alloc, manifest)?);
     };
     let (given, ignored) = (rust.given_version(), rust.is_ignored());

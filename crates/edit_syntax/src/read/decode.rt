@@ -31,33 +31,33 @@ fn delimiter_len(kind: TokenKind) -> u32
 }
 
 /// The text between the delimiters of a token, with its escapes as written.
-pub fn content(text: &str, mark: SyntaxToken) -> &str
+pub fn content(text: &str, token: SyntaxToken) -> &str
     // Holds for any way to split the text around the token.
-    ensures { (before content rest said : List ℕ) → text.now ≡ before ++ delimited mark.kind content rest →
-        mark.from ≡ length (delimited mark.kind content rest) → mark.to ≡ length rest →
-        HasDecodedValue mark.kind content said → result.now ≡ content }
+    ensures { (before content rest said : List ℕ) → text.now ≡ before ++ delimited token.kind content rest →
+        token.from ≡ length (delimited token.kind content rest) → token.to ≡ length rest →
+        HasDecodedValue token.kind content said → result.now ≡ content }
 {
-    let width = delimiter_len(mark.kind);
-    let start = text.len().saturating_sub(mark.from as usize) + width as usize;
+    let width = delimiter_len(token.kind);
+    let start = text.len().saturating_sub(token.from as usize) + width as usize;
     let end = text
         .len()
-        .saturating_sub(mark.to as usize)
+        .saturating_sub(token.to as usize)
         .saturating_sub(width as usize);
     text.get(start..end).unwrap_or("")
 }
 
 /// The position of the text between the delimiters of a token.
-pub fn content_span(mark: SyntaxToken) -> Span
+pub fn content_span(token: SyntaxToken) -> Span
     // Holds for any way to split the text around the token.
     ensures { (text before content rest said : List ℕ) → IsUtf8 text → text ≡ before
-        ++ delimited mark.kind content rest →
-        mark.from ≡ length (delimited mark.kind content rest) → mark.to ≡ length rest →
-        HasDecodedValue mark.kind content said → bytes_at text result ≡ content }
+        ++ delimited token.kind content rest →
+        token.from ≡ length (delimited token.kind content rest) → token.to ≡ length rest →
+        HasDecodedValue token.kind content said → bytes_at text result ≡ content }
 {
-    let width = delimiter_len(mark.kind);
+    let width = delimiter_len(token.kind);
     Span {
-        from: mark.from.saturating_sub(width),
-        to: mark.to.saturating_add(width),
+        from: token.from.saturating_sub(width),
+        to: token.to.saturating_add(width),
     }
 }
 

@@ -102,12 +102,12 @@ fn past_literal_piece(s: &[u8]) -> Option<&[u8]>
     }
 }
 
-/// The input behind one piece of a multi-line string that is not the delimiter `mark`.
+/// The input behind one piece of a multi-line string that is not the delimiter `delimiter_byte`.
 #[tactic(auto, unfolding(crate::specs::Reading::line_piece_at))]
-fn past_line_piece(s: &[u8], mark: u8) -> Option<&[u8]>
-    ensures { Skips result (reading.line_piece_at mark s.now) }
+fn past_line_piece(s: &[u8], delimiter_byte: u8) -> Option<&[u8]>
+    ensures { Skips result (reading.line_piece_at delimiter_byte s.now) }
 {
-    if mark == b'"' {
+    if delimiter_byte == b'"' {
         past_basic_piece(s)
     } else {
         past_literal_piece(s)
@@ -115,24 +115,24 @@ fn past_line_piece(s: &[u8], mark: u8) -> Option<&[u8]>
 }
 
 /// Whether the input begins with exactly three delimiters, which close the string.
-fn is_closing_delimiter(s: &[u8], mark: u8) -> bool
-    ensures { result ≡ reading.is_closing_delimiter mark s.now }
+fn is_closing_delimiter(s: &[u8], delimiter_byte: u8) -> bool
+    ensures { result ≡ reading.is_closing_delimiter delimiter_byte s.now }
 {
-    first(s) == mark && byte_at(s, 1) == mark && byte_at(s, 2) == mark && byte_at(s, 3) != mark
+    first(s) == delimiter_byte && byte_at(s, 1) == delimiter_byte && byte_at(s, 2) == delimiter_byte && byte_at(s, 3) != delimiter_byte
 }
 
 /// The input behind the closing delimiter of a multi-line string; `s` begins behind the opening one.
-pub(crate) fn past_multi(s: &[u8], mark: u8) -> Option<&[u8]>
-    ensures { Skips result (reading.multi_at mark s.now) }
+pub(crate) fn past_multi(s: &[u8], delimiter_byte: u8) -> Option<&[u8]>
+    ensures { Skips result (reading.multi_at delimiter_byte s.now) }
 {
     let mut rest = s;
     let mut few: usize = 2;
     'pieces: for _piece in 0..s.len() {
-        if is_closing_delimiter(rest, mark) {
+        if is_closing_delimiter(rest, delimiter_byte) {
             return Some(skip(rest, 3));
         }
-        if first(rest) != mark {
-            rest = past_line_piece(rest, mark)?;
+        if first(rest) != delimiter_byte {
+            rest = past_line_piece(rest, delimiter_byte)?;
             few = 2;
         } else if few == 0 {
             return None;

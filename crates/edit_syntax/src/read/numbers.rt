@@ -41,7 +41,7 @@ fn is_decimal_integer(s: &[u8]) -> bool
 
 /// The number of bytes at the front that are digits of the class or underscores.
 fn digits_len(s: &[u8], class: Class) -> usize
-    ensures len { result ≡ prefix_len (reading.is_marked (class_test class)) s.now }
+    ensures len { result ≡ prefix_len (reading.or_underscore (class_test class)) s.now }
     ensures within { result ≤ length s.now }
 {
     s.iter()
@@ -132,10 +132,10 @@ fn behind_whole(s: &[u8]) -> Option<(TokenKind, &[u8])>
 }
 
 /// Whether the input begins with these three bytes.
-pub(crate) fn begins(s: &[u8], word: [u8; 3]) -> bool
-    ensures { result ≡ reading.begins (slice_index word 0) (slice_index word 1) (slice_index word 2) s.now }
+pub(crate) fn begins(s: &[u8], expected: [u8; 3]) -> bool
+    ensures { result ≡ reading.begins (slice_index expected 0) (slice_index expected 1) (slice_index expected 2) s.now }
 {
-    first(s) == word[0] && byte_at(s, 1) == word[1] && byte_at(s, 2) == word[2]
+    first(s) == expected[0] && byte_at(s, 1) == expected[1] && byte_at(s, 2) == expected[2]
 }
 
 /// The kind of a decimal number and the input behind it; `s` begins behind the sign.

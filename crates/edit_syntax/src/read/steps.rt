@@ -39,8 +39,8 @@ pub fn past_value(alloc: Global, s: &[u8]) -> CargoResult<&[u8]>
     ensures { (v : Value) (g : List Between) (rest : List ℕ) → IsItem v g rest
         → s.now ≡ value_text v (gap g rest) → MatchResult result (λ r. r.now ≡ gap g rest) IsMemory }
 {
-    let mut marks = Vec::new(alloc);
-    match value(&mut marks, s, 80) {
+    let mut tokens = Vec::new(alloc);
+    match value(&mut tokens, s, 80) {
         Ok(rest) => Ok(rest),
         Err(error) => Err(to_error(error, s.len())),
     }

@@ -106,14 +106,14 @@ pub(crate) fn past_part(s: &[u8]) -> Option<(TokenKind, &[u8])>
 }
 
 /// Whether the input begins with these four bytes.
-fn starts(s: &[u8], word: [u8; 4]) -> bool
-    ensures { result ≡ reading.starts (slice_index word 0) (slice_index word 1) (slice_index word 2)
-        (slice_index word 3) s.now }
+fn starts(s: &[u8], text: [u8; 4]) -> bool
+    ensures { result ≡ reading.starts (slice_index text 0) (slice_index text 1) (slice_index text 2)
+        (slice_index text 3) s.now }
 {
-    first(s) == word[0]
-        && byte_at(s, 1) == word[1]
-        && byte_at(s, 2) == word[2]
-        && byte_at(s, 3) == word[3]
+    first(s) == text[0]
+        && byte_at(s, 1) == text[1]
+        && byte_at(s, 2) == text[2]
+        && byte_at(s, 3) == text[3]
 }
 
 /// The kind of a value of a single token, and the input behind it.

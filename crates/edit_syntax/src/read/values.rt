@@ -27,12 +27,12 @@ pub(crate) fn append_token(
 ) -> Result<(), ReadError>
     ensures { AppendsToken out.old out.new result (token_between kind from.now to.now) }
 {
-    let mark = SyntaxToken {
+    let token = SyntaxToken {
         kind,
         from: remaining_len(from)?,
         to: remaining_len(to)?,
     };
-    out.push(mark)?;
+    out.push(token)?;
     Ok(())
 }
 

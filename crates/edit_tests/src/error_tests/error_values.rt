@@ -33,10 +33,10 @@ fn error_without_fields(number: u32) -> Option<Error> {
 }
 
 /// An error with number fields, or with a constant text.
-fn error_with_numbers(number: u32, word: &str) -> Option<Error> {
+fn error_with_numbers(number: u32, arg: &str) -> Option<Error> {
     match number {
         1 => Some(Error::NotToml { at: 3 }),
-        3 => Some(Error::Device(match word {
+        3 => Some(Error::Device(match arg {
             "kind" => DeviceCall::Kind,
             "read" => DeviceCall::Read,
             _ => DeviceCall::Write,
@@ -47,7 +47,7 @@ fn error_with_numbers(number: u32, word: &str) -> Option<Error> {
             patch: u64::MAX,
         }),
         30 => Some(Error::IndexLine { line: 7 }),
-        44 => Some(Error::Merged(match word {
+        44 => Some(Error::Merged(match arg {
             "add" => MergedCommand::Add,
             _ => MergedCommand::Rm,
         })),

@@ -6,8 +6,8 @@ use std::alloc::Global;
 use std::process::Abort;
 
 /// The dependency kind of this name.
-fn kind_of(word: &str) -> DepKind {
-    match word {
+fn kind_of(arg: &str) -> DepKind {
+    match arg {
         "development" => DepKind::Development,
         "build" => DepKind::Build,
         _ => DepKind::Normal,

@@ -1,5 +1,5 @@
 //! Tests of the versions in manifests, by calls that no program makes.
-use crate::assertion_helpers::{error_number_and_text, push, text, unwrap_ok, word_or_error};
+use crate::assertion_helpers::{error_number_and_text, push, text, unwrap_ok, success_or_error};
 use crate::rows::{TILDES, check_rows};
 use edit_document::{Document, Place, Step};
 use edit_manifest::{Manifest, get_dep_version, set_dep_version};
@@ -26,40 +26,40 @@ fn requirement(rt: &impl Abort, alloc: Global, document: &Document, place: &[Ste
 }
 
 /// Sets the requirement of the entry at a place; `done` where it has that requirement then.
-fn require(rt: &impl Abort, alloc: Global, document: &mut Document, words: &str) -> String {
-    let (names, new) = words.split_once(' ').unwrap_or((words, ""));
+fn require(rt: &impl Abort, alloc: Global, document: &mut Document, row_text: &str) -> String {
+    let (names, new) = row_text.split_once(' ').unwrap_or((row_text, ""));
     let place = place_of(rt, alloc, names);
-    let word = word_or_error(
+    let keyword = success_or_error(
         rt,
         alloc,
         set_dep_version(alloc, document, &place, new),
         "done",
     );
-    if word.as_str() == "done" && requirement(rt, alloc, document, &place).as_str() != new {
+    if keyword.as_str() == "done" && requirement(rt, alloc, document, &place).as_str() != new {
         return text(rt, alloc, "another one");
     }
-    word
+    keyword
 }
 
 /// Parses a version.
-fn version_of(rt: &impl Abort, alloc: Global, words: &str) -> Version {
-    Version::parse(alloc, words).expect(rt, "a version")
+fn version_of(rt: &impl Abort, alloc: Global, row_text: &str) -> Version {
+    Version::parse(alloc, row_text).expect(rt, "a version")
 }
 
 /// Sets a version, of the package or of the workspace, or a requirement, and returns the result.
-fn set(rt: &impl Abort, alloc: Global, manifest: &mut Manifest, word: &str, rest: &str) -> String {
-    if word == "require" {
+fn set(rt: &impl Abort, alloc: Global, manifest: &mut Manifest, keyword: &str, rest: &str) -> String {
+    if keyword == "require" {
         return require(rt, alloc, &mut manifest.document, rest);
     }
     let version = version_of(rt, alloc, rest);
-    match word {
-        "package" => word_or_error(
+    match keyword {
+        "package" => success_or_error(
             rt,
             alloc,
             manifest.set_package_version(alloc, &version),
             "done",
         ),
-        _ => word_or_error(
+        _ => success_or_error(
             rt,
             alloc,
             manifest.set_workspace_version(alloc, &version),
@@ -73,28 +73,28 @@ fn manifest_or_error(
     rt: &impl Abort,
     alloc: Global,
     manifest: &mut Manifest,
-    (word, rest): (&str, &str),
+    (keyword, rest): (&str, &str),
     source: &str,
 ) -> String {
-    let word = set(rt, alloc, manifest, word, rest);
-    if word.as_str() == "done" {
+    let keyword = set(rt, alloc, manifest, keyword, rest);
+    if keyword.as_str() == "done" {
         return text(rt, alloc, manifest.document.as_str());
     }
     if manifest.document.as_str() != source {
         return text(rt, alloc, "refused and changed");
     }
-    word
+    keyword
 }
 
 /// The result for a copy of a manifest: a requirement, or its text after a change.
 fn answer(rt: &impl Abort, alloc: Global, call: &str, source: &str) -> String {
     let manifest = unwrap_ok(rt, Manifest::read(alloc, source));
     let mut copy = unwrap_ok(rt, manifest.try_clone(alloc));
-    let (word, rest) = call.split_once(' ').unwrap_or((call, ""));
-    if word == "requirement" {
+    let (keyword, rest) = call.split_once(' ').unwrap_or((call, ""));
+    if keyword == "requirement" {
         return requirement(rt, alloc, &copy.document, &place_of(rt, alloc, rest));
     }
-    manifest_or_error(rt, alloc, &mut copy, (word, rest), source)
+    manifest_or_error(rt, alloc, &mut copy, (keyword, rest), source)
 }
 
 /// What is answered, the call and the text; a row ends at `~` (Cargo reference, "The Manifest Format", The

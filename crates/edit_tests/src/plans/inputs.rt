@@ -119,8 +119,8 @@ fn addresses(rt: &impl Abort, alloc: Global, index: &mut IndexCache<FileIndex>) 
         plan_shared(alloc, &options, &inputs, &[], &lists, &which, index),
     );
     let mut all = String::new(alloc);
-    for look in &plan.looks {
-        unwrap_alloc(rt, write!(all, "{} ", look.registry.as_str()));
+    for lookup in &plan.looks {
+        unwrap_alloc(rt, write!(all, "{} ", lookup.registry.as_str()));
     }
     all
 }

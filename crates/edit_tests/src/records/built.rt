@@ -72,9 +72,9 @@ fn kind(source: &Source) -> &'static str {
 
 /// The fields of a `Dependency`, and the variant of its source.
 fn record_text(rt: &impl Abort, alloc: Global, record: &Dependency) -> String {
-    let told = dependency_fields(rt, alloc, record);
+    let fields = dependency_fields(rt, alloc, record);
     let kind = record.source().map_or("none", kind);
-    unwrap_alloc(rt, format!(in alloc; "{told}, {kind}"))
+    unwrap_alloc(rt, format!(in alloc; "{fields}, {kind}"))
 }
 
 /// The fields of the copy of a `Dependency`.

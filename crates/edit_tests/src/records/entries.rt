@@ -37,9 +37,9 @@ fn select_compatible(rt: &impl Abort, alloc: Global, entries: &[IndexVersion]) -
 }
 
 /// The version that is selected where an entry is the only one.
-fn select_from_one(rt: &impl Abort, alloc: Global, call: &str, told: IndexVersion) -> String {
+fn select_from_one(rt: &impl Abort, alloc: Global, call: &str, index_entry: IndexVersion) -> String {
     let mut entries = Vec::new(alloc);
-    push(rt, &mut entries, told);
+    push(rt, &mut entries, index_entry);
     match call {
         "latest" => {
             let found = find_latest_version(alloc, entries.as_slice(), false, None);
@@ -50,8 +50,8 @@ fn select_from_one(rt: &impl Abort, alloc: Global, call: &str, told: IndexVersio
 }
 
 /// Whether an entry supports Rust 1.0.0.
-fn suits(rt: &impl Abort, alloc: Global, told: &IndexVersion) -> String {
-    match unwrap_ok(rt, read_candidate(alloc, told)) {
+fn suits(rt: &impl Abort, alloc: Global, index_entry: &IndexVersion) -> String {
+    match unwrap_ok(rt, read_candidate(alloc, index_entry)) {
         Some(candidate) => {
             let suits = candidate.is_for(Some(RustVersion::MIN));
             unwrap_alloc(rt, format!(in alloc; "{suits}"))
@@ -61,8 +61,8 @@ fn suits(rt: &impl Abort, alloc: Global, told: &IndexVersion) -> String {
 }
 
 /// The dependency on an entry.
-fn depends(rt: &impl Abort, alloc: Global, told: &IndexVersion) -> String {
-    let dependency = unwrap_ok(rt, dependency_on(alloc, told));
+fn depends(rt: &impl Abort, alloc: Global, index_entry: &IndexVersion) -> String {
+    let dependency = unwrap_ok(rt, dependency_on(alloc, index_entry));
     dependency_text(rt, alloc, &dependency)
 }
 

@@ -1,7 +1,7 @@
 //! Rows of entries that come to say what a record says: the manifest that is left, the manifest, and the
 //! record, its parts between semicolons. Lines end with `@`; a manifest without a header is one of entries.
 use super::written_rows::record;
-use crate::assertion_helpers::{push, text, unfold_lines, unwrap_alloc, unwrap_ok, word_or_error};
+use crate::assertion_helpers::{push, text, unfold_lines, unwrap_alloc, unwrap_ok, success_or_error};
 use crate::rows::{LINES, check_rows};
 use edit_base::CargoResult;
 use edit_document::{Document, Place, Step};
@@ -139,13 +139,13 @@ fn manifest_and_error(
     rt: &impl Abort,
     alloc: Global,
     document: &Document,
-    refusal: &str,
+    failure: &str,
 ) -> String {
     let text = document.as_str();
     let text = text.strip_prefix(HEADER).unwrap_or(text);
     let left = unwrap_alloc(rt, text.replace(alloc, '\n', "@"));
-    let comma = if refusal.is_empty() { "" } else { ", " };
-    unwrap_alloc(rt, format!(in alloc; "{left}{comma}{refusal}"))
+    let comma = if failure.is_empty() { "" } else { ", " };
+    unwrap_alloc(rt, format!(in alloc; "{left}{comma}{failure}"))
 }
 
 /// The manifest of a row: below `[dependencies]` where it has no header.
@@ -162,8 +162,8 @@ fn left_by(rt: &impl Abort, alloc: Global, lines: &str, record: &Dependency) -> 
     let mut document = unwrap_ok(rt, Document::read(alloc, manifest.as_str()));
     let place = place_of(rt, alloc, lines);
     let answer = update(alloc, &mut document, record, &place);
-    let refusal = word_or_error(rt, alloc, answer, "");
-    manifest_and_error(rt, alloc, &document, refusal.as_str())
+    let failure = success_or_error(rt, alloc, answer, "");
+    manifest_and_error(rt, alloc, &document, failure.as_str())
 }
 
 /// The manifest of a row after an update from the `Dependency` of the row.

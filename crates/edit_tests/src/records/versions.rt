@@ -12,7 +12,7 @@ const CALLS: &str = "\
 true|pre-release|1.1.2-prerelease+meta
 false|pre-release|1.1.2+meta-valid
 1.1.2|cut|1.1.2+meta-valid
-serde 1.0|word|serde@1.0";
+serde 1.0|spec|serde@1.0";
 
 /// Parses a version.
 fn version(rt: &impl Abort, alloc: Global, text: &str) -> Version {
@@ -33,8 +33,8 @@ fn has_prerelease(rt: &impl Abort, alloc: Global, text: &str) -> String {
 }
 
 /// The name and the requirement of an argument.
-fn spec_text(rt: &impl Abort, alloc: Global, word: &str) -> String {
-    let spec = unwrap_ok(rt, CrateSpec::from_str(alloc, word));
+fn spec_text(rt: &impl Abort, alloc: Global, text: &str) -> String {
+    let spec = unwrap_ok(rt, CrateSpec::from_str(alloc, text));
     let name = spec.name.as_str();
     let req = spec.version_req.as_ref().map_or("-", |text| text.as_str());
     unwrap_alloc(rt, format!(in alloc; "{name} {req}"))

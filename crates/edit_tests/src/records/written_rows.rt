@@ -44,10 +44,10 @@ features = [\"a\"], optional = true }|/|\
 registry=1;registry name=n;rename=d;default features=true;features=a;optional=true";
 
 /// The parts of a text, separated by spaces; none for the empty text.
-fn words(rt: &impl Abort, alloc: Global, words: &str) -> Vec<String> {
+fn split_list(rt: &impl Abort, alloc: Global, line: &str) -> Vec<String> {
     let mut all = Vec::new(alloc);
-    'words: for word in words.split_terminator(' ') {
-        push(rt, &mut all, text(rt, alloc, word));
+    'parts: for part in line.split_terminator(' ') {
+        push(rt, &mut all, text(rt, alloc, part));
     }
     all
 }
@@ -121,7 +121,7 @@ fn path(rt: &impl Abort, alloc: Global, part: &str, text: &str) -> Source {
 /// The features that a crate has: one, which has two others.
 fn features_of(rt: &impl Abort, alloc: Global, name: &str) -> BTreeMap<String, Vec<String>> {
     let mut features = BTreeMap::new(alloc);
-    let others = words(rt, alloc, "b c");
+    let others = split_list(rt, alloc, "b c");
     let name = text(rt, alloc, name);
     features.insert(name, others).ok().expect(rt, "memory");
     features
@@ -133,12 +133,12 @@ fn with_features(
     alloc: Global,
     record: Dependency,
     part: &str,
-    words: Vec<String>,
+    features: Vec<String>,
 ) -> Dependency {
     match part {
-        "features" => record.set_features(words),
-        "inherited features" => record.set_inherited_features(words),
-        _ => unwrap_ok(rt, record.extend_features(alloc, words)),
+        "features" => record.set_features(features),
+        "inherited features" => record.set_inherited_features(features),
+        _ => unwrap_ok(rt, record.extend_features(alloc, features)),
     }
 }
 
@@ -170,7 +170,7 @@ fn with_values(
 ) -> Dependency {
     match part {
         "features" | "more features" | "inherited features" => {
-            with_features(rt, alloc, record, part, words(rt, alloc, text))
+            with_features(rt, alloc, record, part, split_list(rt, alloc, text))
         }
         "available features" => record.set_available_features(features_of(rt, alloc, text)),
         _ => record.set_source(source(rt, alloc, part, text)),

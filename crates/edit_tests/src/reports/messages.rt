@@ -18,11 +18,11 @@ fn write_by(out: &mut Vec<u8>, call: &str, first: &str, message: &str) -> CargoR
 }
 
 /// The contents of a writer after a message: its status and the message, with `@` for a line end.
-fn message_contents(rt: &impl Abort, alloc: Global, call: &str, words: &str) -> String {
+fn message_contents(rt: &impl Abort, alloc: Global, call: &str, fields: &str) -> String {
     let mut out = Vec::new(alloc);
     unwrap_ok(
         rt,
-        write_by(&mut out, call, field(words, 0), field(words, 1)),
+        write_by(&mut out, call, field(fields, 0), field(fields, 1)),
     );
     let seen = str::from_utf8(&out).expect(rt, "UTF-8");
     let lines: Vec<&str> = unwrap_alloc(rt, seen.split('\n').collect(alloc));
@@ -53,22 +53,22 @@ fn end_by(call: &str) -> CliError {
 }
 
 /// The exit status of that error, and whether it has a message.
-fn status(rt: &impl Abort, alloc: Global, call: &str, _words: &str) -> String {
+fn status(rt: &impl Abort, alloc: Global, call: &str, _rest: &str) -> String {
     let end = end_by(call);
-    let told = if end.error.is_some() {
-        "told"
+    let outcome = if end.error.is_some() {
+        "error"
     } else {
-        "untold"
+        "none"
     };
-    unwrap_alloc(rt, format!(in alloc; "{} {told}", end.exit_code))
+    unwrap_alloc(rt, format!(in alloc; "{} {outcome}", end.exit_code))
 }
 
 /// The status and whether there is an error; the call.
 const ENDS: &str = "\
-3 told|new
-4 untold|code
-101 told|error
-1 told|io";
+3 error|new
+4 none|code
+101 error|error
+1 error|io";
 
 #[test]
 fn ends_with_a_status(rt: HostRuntime) {

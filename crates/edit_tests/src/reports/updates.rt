@@ -14,10 +14,10 @@ const METADATA: &str = "\
 \"manifest_path\":\"/c/Cargo.toml\",\"version\":\"1.2.3\",\"source\":\"\"}]}";
 
 /// A name as a list.
-fn single_argument(rt: &impl Abort, alloc: Global, word: &str) -> Vec<String> {
-    let mut words = Vec::new(alloc);
-    push(rt, &mut words, text(rt, alloc, word));
-    words
+fn single_argument(rt: &impl Abort, alloc: Global, arg: &str) -> Vec<String> {
+    let mut args = Vec::new(alloc);
+    push(rt, &mut args, text(rt, alloc, arg));
+    args
 }
 
 /// A plan that modified a name.
@@ -36,12 +36,12 @@ fn plan_of(rt: &impl Abort, alloc: Global, modified: &str) -> UpgradePlan {
 }
 
 /// Options by letters, `c` compatible and `d` dry run, and a name.
-fn options_of(rt: &impl Abort, alloc: Global, flags: &str, word: &str) -> Options {
+fn options_of(rt: &impl Abort, alloc: Global, flags: &str, arg: &str) -> Options {
     Options {
         compatible: flags.contains('c'),
         incompatible: false,
         pinned: false,
-        package: single_argument(rt, alloc, word),
+        package: single_argument(rt, alloc, arg),
         exclude: Vec::new(alloc),
         dry_run: flags.contains('d'),
         locked: false,
@@ -52,8 +52,8 @@ fn options_of(rt: &impl Abort, alloc: Global, flags: &str, word: &str) -> Option
 }
 
 /// How many calls there are for letters and a name.
-fn calls(rt: &impl Abort, alloc: Global, flags: &str, word: &str) -> String {
-    let options = options_of(rt, alloc, flags, word);
+fn calls(rt: &impl Abort, alloc: Global, flags: &str, arg: &str) -> String {
+    let options = options_of(rt, alloc, flags, arg);
     let plan = plan_of(rt, alloc, "serde");
     let workspace = unwrap_ok(rt, Workspace::read(alloc, METADATA.as_bytes()));
     match update_calls(alloc, &plan, &workspace, &options) {

@@ -87,7 +87,7 @@ fn by_cache(
 }
 
 /// Whether one cache gives each manifest in turn what counts for it.
-fn kept_rows(rt: &impl Abort, alloc: Global, cache: &mut ConfigCache, store: &mut FaultStore) {
+fn cached_rows(rt: &impl Abort, alloc: Global, cache: &mut ConfigCache, store: &mut FaultStore) {
     'rows: for row in MEMBERS.lines() {
         let seen = by_cache(rt, alloc, cache, store, field(row, 2));
         check_result(rt, row, seen.as_str(), field(row, 0));
@@ -100,7 +100,7 @@ fn kept_rows(rt: &impl Abort, alloc: Global, cache: &mut ConfigCache, store: &mu
 fn configurations_by_one_cache(rt: HostRuntime) {
     let mut store = FaultStore::new(files_of(&rt, rt.alloc(), WORKSPACE), 8, 0);
     let mut cache = ConfigCache::new(rt.alloc());
-    kept_rows(&rt, rt.alloc(), &mut cache, &mut store);
+    cached_rows(&rt, rt.alloc(), &mut cache, &mut store);
 }
 
 /// The paths of the configurations that count for a manifest, by a cache.
@@ -142,5 +142,5 @@ fn config_errors_are_not_cached(rt: HostRuntime) {
         seen.as_str(),
         "3 Failed to read a file",
     );
-    kept_rows(&rt, rt.alloc(), &mut cache, &mut store);
+    cached_rows(&rt, rt.alloc(), &mut cache, &mut store);
 }

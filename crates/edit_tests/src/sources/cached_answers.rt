@@ -17,7 +17,7 @@ const TWO: &[u8] =
 const OVER_TWO: &str = "both lines, in order|krate|a||a 1.0.0.a 1.1.0!";
 
 #[test]
-fn looks_up_in_one_file(rt: HostRuntime) {
+fn finds_in_one_file(rt: HostRuntime) {
     let index = unwrap_ok(&rt, FileIndex::read(rt.alloc(), TWO));
     let mut cache = IndexCache::new(rt.alloc(), index);
     calls(&rt, rt.alloc(), &mut cache, OVER_TWO);

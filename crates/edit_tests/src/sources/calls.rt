@@ -1,7 +1,7 @@
 //! Calls of an index and of its cache, as texts.
 use super::index_texts::entries;
 use crate::assertion_helpers::{
-    check_result, error_number_and_text, text, unwrap_alloc, word_or_error,
+    check_result, error_number_and_text, text, unwrap_alloc, success_or_error,
 };
 use crate::records::parts::choice_text;
 use crate::rows::field;
@@ -125,7 +125,7 @@ fn call_without_result<I: Index>(
         "rank" => cache.rank(alloc, registry, name),
         _ => cache.update_krate(registry, name),
     };
-    word_or_error(rt, alloc, done, "done")
+    success_or_error(rt, alloc, done, "done")
 }
 
 /// The result of a call. Its row has a name, the call, the crate's name, and a version or a requirement.

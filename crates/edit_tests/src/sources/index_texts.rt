@@ -10,8 +10,8 @@ use std::process::Abort;
 pub(crate) fn entries(rt: &impl Abort, alloc: Global, krate: &IndexKrate) -> String {
     let mut seen = String::new(alloc);
     'entries: for entry in &krate.versions {
-        let mark = if entry.yanked { '!' } else { '.' };
-        unwrap_alloc(rt, write!(seen, "{} {}{mark}", entry.name, entry.version));
+        let sign = if entry.yanked { '!' } else { '.' };
+        unwrap_alloc(rt, write!(seen, "{} {}{sign}", entry.name, entry.version));
     }
     seen
 }

@@ -1,6 +1,6 @@
 //! Calls of a store, as texts.
 use crate::assertion_helpers::{
-    check_result, error_number_and_text, text, unwrap_alloc, word_or_error,
+    check_result, error_number_and_text, text, unwrap_alloc, success_or_error,
 };
 use crate::rows::field;
 use edit_store::{Kind, Store};
@@ -28,7 +28,7 @@ fn read<S: Store>(rt: &impl Abort, alloc: Global, store: &mut S, path: &str) -> 
 
 /// The result of a write.
 fn write<S: Store>(rt: &impl Abort, alloc: Global, store: &mut S, path: &str, new: &str) -> String {
-    word_or_error(
+    success_or_error(
         rt,
         alloc,
         store.write(alloc, path, new.as_bytes()),

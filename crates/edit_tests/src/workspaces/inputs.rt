@@ -1,6 +1,6 @@
 //! Tests of reading the manifests of a workspace where the device fails. The others are in
 //! `tests/cases/upgrade/workspace_manifests.toml`.
-use crate::assertion_helpers::{unwrap_alloc, unwrap_ok, word_or_error};
+use crate::assertion_helpers::{unwrap_alloc, unwrap_ok, success_or_error};
 use crate::rows::{TILDES, check_rows};
 use edit_metadata::{Workspace, workspace_inputs};
 use edit_store::{FaultStore, MemoryStore, Store};
@@ -26,7 +26,7 @@ fn failing_store(rt: &impl Abort, alloc: Global, at: u64) -> FaultStore {
 fn inputs(rt: &impl Abort, alloc: Global, store: &mut FaultStore) -> String {
     let workspace = unwrap_ok(rt, Workspace::read(alloc, METADATA.as_bytes()));
     let inputs = workspace_inputs(alloc, store, &workspace, None, false);
-    word_or_error(rt, alloc, inputs, "inputs")
+    success_or_error(rt, alloc, inputs, "inputs")
 }
 
 /// The inputs where one call of the device fails.

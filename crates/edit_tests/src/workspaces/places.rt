@@ -26,11 +26,11 @@ fn input_of(rt: &impl Abort, alloc: Global, row: &str) -> Input {
 }
 
 /// The error with a name; any other name is that of a text that is no manifest, at the byte with its length.
-fn error_of_word(word: &str) -> Error {
-    match word {
+fn error_by_name(arg: &str) -> Error {
+    match arg {
         "utf8" => Error::NotUtf8,
         "path" => Error::NoPath,
-        word => Error::NotToml { at: word.len() },
+        arg => Error::NotToml { at: arg.len() },
     }
 }
 
@@ -44,8 +44,8 @@ fn inputs_of(rt: &impl Abort, alloc: Global, rows: &str) -> Vec<Input> {
 }
 
 /// The file, line and column of an error, without the excerpt; `-` for none.
-fn place_text(rt: &impl Abort, alloc: Global, refusal: &RunError) -> String {
-    match &refusal.place {
+fn place_text(rt: &impl Abort, alloc: Global, failure: &RunError) -> String {
+    match &failure.place {
         Some(place) => {
             let (place, _excerpt) = place.split_once('\n').unwrap_or((place.as_str(), ""));
             text(rt, alloc, place)
@@ -55,10 +55,10 @@ fn place_text(rt: &impl Abort, alloc: Global, refusal: &RunError) -> String {
 }
 
 /// The place of an error of a plan over inputs.
-fn place_of(rt: &impl Abort, alloc: Global, word: &str, inputs: &str) -> String {
+fn place_of(rt: &impl Abort, alloc: Global, arg: &str, inputs: &str) -> String {
     let all = inputs_of(rt, alloc, inputs);
-    let refusal = at_input(alloc, error_of_word(word), &all);
-    place_text(rt, alloc, &refusal)
+    let failure = at_input(alloc, error_by_name(arg), &all);
+    place_text(rt, alloc, &failure)
 }
 
 /// Rows: the place; the error; the inputs.

@@ -79,19 +79,19 @@ fn sources_text(rt: &impl Abort, alloc: Global, sources: &Sources) -> String {
 }
 
 /// The part of a line with a number, from 0; none where it is `-`, and where there is none.
-fn nth(words: &str, n: usize) -> Option<&str> {
-    match words.split(' ').nth(n) {
+fn nth(parts: &str, n: usize) -> Option<&str> {
+    match parts.split(' ').nth(n) {
         Some("-") => None,
-        word => word,
+        part => part,
     }
 }
 
 /// The choice of a Rust version: that of the manifests for `None`, none for `!`.
-fn choice(rt: &impl Abort, alloc: Global, word: Option<&str>) -> RustChoice {
-    match word {
+fn choice(rt: &impl Abort, alloc: Global, name: Option<&str>) -> RustChoice {
+    match name {
         None => RustChoice::Own,
         Some("!") => RustChoice::Ignored,
-        Some(word) => RustChoice::Given(unwrap_ok(rt, RustVersion::from_str(alloc, word))),
+        Some(name) => RustChoice::Given(unwrap_ok(rt, RustVersion::from_str(alloc, name))),
     }
 }
 
@@ -119,12 +119,12 @@ fn request_of_row<'a>(
 fn read_result(
     rt: &impl Abort,
     alloc: Global,
-    asked: &SourceRequest,
+    request: &SourceRequest,
     store: &mut MemoryStore,
 ) -> String {
-    match read_sources(alloc, asked, "/w/a/src", Some("/h"), store) {
+    match read_sources(alloc, request, "/w/a/src", Some("/h"), store) {
         Ok(sources) => sources_text(rt, alloc, &sources),
-        Err(refusal) => error_number_and_text(rt, alloc, refusal.error),
+        Err(failure) => error_number_and_text(rt, alloc, failure.error),
     }
 }
 
@@ -132,8 +132,8 @@ fn read_result(
 fn read(rt: &impl Abort, alloc: Global, target: &str, more: &str) -> String {
     let mut store = MemoryStore::new(alloc);
     put_files(rt, alloc, &mut store);
-    let asked = request_of_row(rt, alloc, target, more);
-    read_result(rt, alloc, &asked, &mut store)
+    let request = request_of_row(rt, alloc, target, more);
+    read_result(rt, alloc, &request, &mut store)
 }
 
 /// Rows: the result; the given manifest and metadata; the index, the Rust version, the folder, and the two

@@ -15,11 +15,11 @@ use std::alloc::{AllocError, Global};
 pub(crate) type Call = Vec<String>;
 
 /// Appends an argument.
-fn add(alloc: Global, words: &mut Call, word: &str) -> Result<(), AllocError>
-    ensures { OnOk result (args_view words.new.items ≡ args_view words.old.items ++ word.now ∷ []) }
+fn add(alloc: Global, args: &mut Call, arg: &str) -> Result<(), AllocError>
+    ensures { OnOk result (args_view args.new.items ≡ args_view args.old.items ++ arg.now ∷ []) }
 {
-    let word = String::from_str(alloc, word)?;
-    words.push(word)?;
+    let arg = String::from_str(alloc, arg)?;
+    args.push(arg)?;
     Ok(())
 }
 
@@ -28,28 +28,28 @@ pub(crate) fn begin_call(alloc: Global, manifest: &str) -> Result<Call, AllocErr
     ensures { IfOk result (λ v. args_view v.items ≡ codes "cargo" ∷ codes "update"
         ∷ codes "--manifest-path" ∷ manifest.now ∷ []) }
 {
-    let mut words = Vec::new(alloc);
-    add(alloc, &mut words, "cargo")?;
-    add(alloc, &mut words, "update")?;
-    add(alloc, &mut words, "--manifest-path")?;
-    add(alloc, &mut words, manifest)?;
-    Ok(words)
+    let mut args = Vec::new(alloc);
+    add(alloc, &mut args, "cargo")?;
+    add(alloc, &mut args, "update")?;
+    add(alloc, &mut args, "--manifest-path")?;
+    add(alloc, &mut args, manifest)?;
+    Ok(args)
 }
 
 /// Appends the argument that each call ends with.
-pub(crate) fn end(alloc: Global, words: &mut Call) -> Result<(), AllocError>
-    ensures { OnOk result (args_view words.new.items
-        ≡ args_view words.old.items ++ codes "--offline" ∷ []) }
+pub(crate) fn end(alloc: Global, args: &mut Call) -> Result<(), AllocError>
+    ensures { OnOk result (args_view args.new.items
+        ≡ args_view args.old.items ++ codes "--offline" ∷ []) }
 {
-    add(alloc, words, "--offline")
+    add(alloc, args, "--offline")
 }
 
 /// Appends `--aggressive`, which also updates the dependencies of the packages.
-pub(crate) fn add_aggressive(alloc: Global, words: &mut Call) -> Result<(), AllocError>
-    ensures { OnOk result (args_view words.new.items
-        ≡ args_view words.old.items ++ codes "--aggressive" ∷ []) }
+pub(crate) fn add_aggressive(alloc: Global, args: &mut Call) -> Result<(), AllocError>
+    ensures { OnOk result (args_view args.new.items
+        ≡ args_view args.old.items ++ codes "--aggressive" ∷ []) }
 {
-    add(alloc, words, "--aggressive")
+    add(alloc, args, "--aggressive")
 }
 
 /// A package ID specification `NAME@VERSION`, as one argument.
@@ -63,15 +63,15 @@ fn package_spec_arg(alloc: Global, krate: &Package) -> Result<String, AllocError
 /// Appends the arguments that name a package.
 pub(crate) fn add_package(
     alloc: Global,
-    words: &mut Call,
+    args: &mut Call,
     krate: &Package,
 ) -> Result<(), AllocError>
-    ensures { OnOk result (args_view words.new.items
-        ≡ args_view words.old.items ++ package_args (package_view krate.now)) }
+    ensures { OnOk result (args_view args.new.items
+        ≡ args_view args.old.items ++ package_args (package_view krate.now)) }
 {
-    add(alloc, words, "--package")?;
-    let word = package_spec_arg(alloc, krate)?;
-    words.push(word)?;
+    add(alloc, args, "--package")?;
+    let arg = package_spec_arg(alloc, krate)?;
+    args.push(arg)?;
     Ok(())
 }
 
@@ -92,11 +92,11 @@ pub(crate) fn precise_call(
     ensures { IfOk result (λ v. args_view v.items
         ≡ precise_call manifest.now (pin_view pin.now) (package_view krate.now)) }
 {
-    let mut words = begin_call(alloc, manifest)?;
-    add(alloc, &mut words, "--precise")?;
+    let mut args = begin_call(alloc, manifest)?;
+    add(alloc, &mut args, "--precise")?;
     let version = version_text(alloc, &pin.version)?;
-    words.push(version)?;
-    add_package(alloc, &mut words, krate)?;
-    end(alloc, &mut words)?;
-    Ok(words)
+    args.push(version)?;
+    add_package(alloc, &mut args, krate)?;
+    end(alloc, &mut args)?;
+    Ok(args)
 }

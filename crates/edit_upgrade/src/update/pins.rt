@@ -5,8 +5,8 @@ ghost use Rattle.edit_base.specs.Errors.{IsMemory};
 ghost use Rattle.edit_version.specs.Greatest.{pick};
 ghost use Rattle.edit_version.specs.VersionOrder.{full_order};
 ghost use Rattle.edit_upgrade.specs.PinViews.{pin_view, pins_view};
-ghost use Rattle.edit_upgrade.specs.Words.{IsPackageArg};
-ghost use Rattle.edit_upgrade.specs.WordCauses.{FailsAtPackageArg};
+ghost use Rattle.edit_upgrade.specs.EntrySelection.{IsPackageArg};
+ghost use Rattle.edit_upgrade.specs.OptionCauses.{FailsAtPackageArg};
 ghost use Rattle.edit_upgrade.specs.Pins.{is_strict, named_version, pin_at, pin_of, pins_of, precise_version};
 ghost use Rattle.semver.specs.Identifiers.{comparator_view, parts_of};
 
@@ -123,15 +123,15 @@ fn maybe_pin(alloc: Global, text: Option<&String>) -> CargoResult<Option<Pin>>
 /// The names that `--package` arguments select, each with the pin of its last argument.
 ///
 /// Fails where an argument cannot be parsed.
-pub(crate) fn read_pins(alloc: Global, words: &[String]) -> CargoResult<Pins>
-    ensures pins { IfOk result (λ m. pins_view m ≡ pins_of (map string_bytes words.now)) }
-    ensures read { IfOk result (λ m. All IsPackageArg (map string_bytes words.now)) }
+pub(crate) fn read_pins(alloc: Global, args: &[String]) -> CargoResult<Pins>
+    ensures pins { IfOk result (λ m. pins_view m ≡ pins_of (map string_bytes args.now)) }
+    ensures read { IfOk result (λ m. All IsPackageArg (map string_bytes args.now)) }
     ensures error { IfErr result
-        (λ e. IsMemory e ⊎ FailsAtPackageArg (map string_bytes words.now) e) }
+        (λ e. IsMemory e ⊎ FailsAtPackageArg (map string_bytes args.now) e) }
 {
     let mut pins = BTreeMap::new(alloc);
-    'words: for word in words {
-        let spec = CrateSpec::resolve(alloc, word.as_str())?;
+    'each_arg: for arg in args {
+        let spec = CrateSpec::resolve(alloc, arg.as_str())?;
         let CrateSpec { name, version_req } = spec;
         let pin = maybe_pin(alloc, version_req.as_ref())?;
         pins.insert(name, pin)?;

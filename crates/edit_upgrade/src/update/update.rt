@@ -5,8 +5,8 @@ ghost use Rattle.edit_metadata.specs.Workspaces.{packages_view, workspace_view};
 ghost use Rattle.edit_upgrade.specs.ParsedOptions.{call_options, is_git_updated, is_due, is_recursive};
 ghost use Rattle.edit_upgrade.specs.Groups.{package_values};
 ghost use Rattle.edit_upgrade.specs.PinViews.{pins_view};
-ghost use Rattle.edit_upgrade.specs.Words.{IsPackageArg};
-ghost use Rattle.edit_upgrade.specs.WordCauses.{FailsAtPackageArg};
+ghost use Rattle.edit_upgrade.specs.EntrySelection.{IsPackageArg};
+ghost use Rattle.edit_upgrade.specs.OptionCauses.{FailsAtPackageArg};
 ghost use Rattle.edit_upgrade.specs.Pins.{pins_of};
 ghost use Rattle.edit_upgrade.specs.UpdateCalls.{aggressive_calls, calls_for, git_calls, packages_args, recursive_calls, unpinned_packages, update_calls};
 ghost use Rattle.edit_upgrade.specs.Views.{calls_view, args_view};
@@ -46,12 +46,12 @@ fn is_recursive(plan: &UpgradePlan, options: &Options) -> bool
 }
 
 /// Appends the arguments that name these packages.
-fn add_packages(alloc: Global, words: &mut Call, packages: &[&Package]) -> Result<(), AllocError>
-    ensures { OnOk result (args_view words.new.items
-        ≡ args_view words.old.items ++ packages_args (packages_view (package_values packages.now))) }
+fn add_packages(alloc: Global, args: &mut Call, packages: &[&Package]) -> Result<(), AllocError>
+    ensures { OnOk result (args_view args.new.items
+        ≡ args_view args.old.items ++ packages_args (packages_view (package_values packages.now))) }
 {
     'packages: for package in packages {
-        add_package(alloc, words, package)?;
+        add_package(alloc, args, package)?;
     }
     Ok(())
 }
@@ -72,10 +72,10 @@ fn add_git_call(
         return Ok(());
     }
     let found = from_git(alloc, &plan.git_crates, packages)?;
-    let mut words = begin_call(alloc, manifest)?;
-    add_packages(alloc, &mut words, &found)?;
-    end(alloc, &mut words)?;
-    calls.push(words)?;
+    let mut args = begin_call(alloc, manifest)?;
+    add_packages(alloc, &mut args, &found)?;
+    end(alloc, &mut args)?;
+    calls.push(args)?;
     Ok(())
 }
 
@@ -92,11 +92,11 @@ fn add_aggressive_call(
     if packages.is_empty() {
         return Ok(());
     }
-    let mut words = begin_call(alloc, manifest)?;
-    add_aggressive(alloc, &mut words)?;
-    add_packages(alloc, &mut words, packages)?;
-    end(alloc, &mut words)?;
-    calls.push(words)?;
+    let mut args = begin_call(alloc, manifest)?;
+    add_aggressive(alloc, &mut args)?;
+    add_packages(alloc, &mut args, packages)?;
+    end(alloc, &mut args)?;
+    calls.push(args)?;
     Ok(())
 }
 
@@ -155,7 +155,7 @@ pub fn update_calls(
     ensures calls { IfOk result (λ v. calls_view v.items
         ≡ update_calls (call_options plan.now options.now) (workspace_view workspace.now)) }
     // where calls are needed, each `--package` argument can be parsed
-    ensures words { IfOk result (λ v. is_due (call_options plan.now options.now) ≡ true
+    ensures args { IfOk result (λ v. is_due (call_options plan.now options.now) ≡ true
         → All IsPackageArg (map string_bytes options.now.package.items)) }
     // out of memory, or calls are needed and a `--package` argument cannot be parsed
     ensures error { IfErr result (λ e. IsMemory e

@@ -1,7 +1,7 @@
 use Rattle.std.proofs.Common.{◌∙◌}
 use Rattle.edit_lookups.specs.Lookups.{lookup_text}
 use Rattle.edit_answers.specs.Outcomes.{PutsIndexed}
-use Rattle.edit_answers.proofs.LinkLemmas.{linked-stands, links-changes, links-told}
+use Rattle.edit_answers.proofs.LinkLemmas.{linked-stands, links-changes, links-by}
 use Rattle.edit_answers.proofs.settle.link_cached.Goals as goal
 
 pub returns-in-Ok-clause-changes : goal.returns-in-Ok-clause-changes
@@ -12,7 +12,7 @@ returns-in-Ok-clause-changes g c =
 
 pub returns-in-Ok-clause-outcome : goal.returns-in-Ok-clause-outcome
 returns-in-Ok-clause-outcome g c t =
-    links-told _ _ _ _ _ _ _ _ _ c.in-Ok.ensures (c.as_str.ensures.value
+    links-by _ _ _ _ _ _ _ _ _ c.in-Ok.ensures (c.as_str.ensures.value
     ∙ c.in_ok-entry.ensures) c.by_link.ensures t
 
 pub returns-in-Ok-clause-linked : goal.returns-in-Ok-clause-linked

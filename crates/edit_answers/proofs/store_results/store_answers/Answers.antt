@@ -5,7 +5,7 @@ use Rattle.edit_answers.specs.Outcomes.{PutsSome}
 use Rattle.edit_answers.specs.StoredResults.{PutsOf, ReportsOn, text_of}
 use Rattle.edit_answers.specs.StoredResults.Reports.{malformed, readable}
 use Rattle.edit_answers.specs.declared.messages.Report.{Report}
-use Rattle.edit_answers.proofs.ChangeLemmas.{after-reads, on-ok, only-reads, reads-fails, reads-refused, weakened-told}
+use Rattle.edit_answers.proofs.ChangeLemmas.{after-reads, on-ok, only-reads, reads-fails, reads-refused, weakened-known}
 use Rattle.edit_answers.proofs.ReportLemmas.{report-same}
 use Rattle.edit_answers.proofs.store_results.store_answers.Goals as goal
 
@@ -34,7 +34,7 @@ returns-in-Some-clause-changes g c =
     (c.as_str.ensures.value ∙ c.in-Ok.ensures.text t)
     (rw c.in-Some.is at c.in_ok-lookups.ensures)) in
     after-reads {T = Report} (λ _. may) may _ _ _ _ c.read_from_room.ensures.reads
-    (weakened-told (λ _. PutsSome p ls) (λ _. may) (PutsSome p ls) may _ _ _
+    (weakened-known (λ _. PutsSome p ls) (λ _. may) (PutsSome p ls) may _ _ _
     (λ t v path bytes h. record {
       lookups = ls;
       say = say

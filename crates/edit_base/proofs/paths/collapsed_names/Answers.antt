@@ -18,9 +18,9 @@ popped ps [] (x ∷ new) None n e h = cc
 popped ps (x ∷ old) new None n e h = absurd (let z : length (x ∷ old) ≡ 0 = h refl in omega arith)
 popped ps old new (Some q) n e h =
     let last = map-append (λ (x : Bor (List ℕ)). x.now) new (q ∷ []) in
-    let kept : map (λ x. x.now) old ≡ map (λ x. x.now) new ++ q.now ∷ [] = ap (λ xs. map (λ x. x.now) xs) e
+    let same_names : map (λ x. x.now) old ≡ map (λ x. x.now) new ++ q.now ∷ [] = ap (λ xs. map (λ x. x.now) xs) e
     ∙ last in
-    back ps (map (λ x. x.now) new) q.now (subst (λ qs. Normal ps qs) kept n)
+    back ps (map (λ x. x.now) new) q.now (subst (λ qs. Normal ps qs) same_names n)
 
 pub loop-part-init : goal.loop-part-init
 loop-part-init c = subst (λ zs. Normal [] (map (λ x. x.now) zs)) (sym c.new-names.ensures.items) root

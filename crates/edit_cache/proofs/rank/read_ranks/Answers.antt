@@ -6,8 +6,8 @@ use Rattle.edit_cache.proofs.rank.read_ranks.Goals as goal
 
 pub loop-place-preserved : goal.loop-place-preserved
 loop-place-preserved c =
-    let told = c.index-entries-place.result in
+    let index_entry = c.index-entries-place.result in
     c.in_ok-push_rank.ensures.ok
-    ∙ ap (λ ranks. ranks ++ rank_at c.loop-place.place (entry_of told)) c.loop-place.invariant
-    ∙ sym (ranks_from-step c.args.entries.now c.loop-place.place told c.loop-place-test.true
+    ∙ ap (λ ranks. ranks ++ rank_at c.loop-place.place (entry_of index_entry)) c.loop-place.invariant
+    ∙ sym (ranks_from-step c.args.entries.now c.loop-place.place index_entry c.loop-place-test.true
     c.index-entries-place.is)

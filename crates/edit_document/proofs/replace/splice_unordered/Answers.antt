@@ -22,5 +22,5 @@ returns-clause-text c form edits found =
     (λ a r q k. search rules) in
     let is = (located_rewrite c.args.source.now form edits _ _ found c.utf8.source
     (IsPermutation-map range_of _ _ c.sort_unstable_by_key.ensures.permutation) (ascends _ up)).bytes in
-    let told = c.splice.ensures.text in
-    rw is at told
+    let text_is = c.splice.ensures.text in
+    rw is at text_is

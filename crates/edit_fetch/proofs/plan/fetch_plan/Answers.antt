@@ -14,7 +14,7 @@ returns-in-Ok-write_plan-clause-planned g c = λ tells.
       said = rw c.in-Some.is at c.in_ok-lookups.ensures;
       made = subst (λ ls. AreEffectiveRequests (g.S.Store.view c.args.store.now).file_at plan (map lookup_text ls)
           c.in-Ok.requests.items) c.deref.ensures.value (c.in-Ok.ensures.requests tells);
-      kept = c.in-Ok-write_plan.ensures.lookups now ∙ ap (λ t. Some t) c.as_bytes.ensures.value;
+      copied = c.in-Ok-write_plan.ensures.lookups now ∙ ap (λ t. Some t) c.as_bytes.ensures.value;
       written = c.in-Ok-write_plan.ensures.config now
           ∙ ap (λ t. Some t) (c.deref-3.ensures.value ∙ c.in_ok-config.ensures.text
           ∙ ap (requests_text plan.settings.now plan.room.now) c.deref-2.ensures.value);

@@ -4,7 +4,7 @@ use Rattle.std.proofs.lemmas.List.{map_push}
 use Rattle.std.proofs.lemmas.Slice.Zip.{all_zipped_more}
 use Rattle.edit_metadata.specs.Folders.{IsManifestFolder}
 use Rattle.edit_metadata.specs.Workspaces.{member_paths, packages_view}
-use Rattle.edit_metadata.proofs.MemberPaths.{paths-kept, paths-more}
+use Rattle.edit_metadata.proofs.MemberPaths.{paths-same, paths-more}
 use Rattle.edit_metadata.proofs.folders.member_folders.Goals as goal
 use Rattle.edit_metadata.proofs.folders.member_folders.Goals.{then-package+in_ok-folder+in_ok-push, else-package}
 
@@ -30,6 +30,6 @@ packages-preserved c =
           subst (λ v. AllZip IsManifestFolder (member_paths (packages_view
           (take (i + 1) c.args.packages.now))) (map string_bytes v.items)) (sym w.folders-is)
           (subst (λ ps. AllZip IsManifestFolder ps (map string_bytes c.packages.folders.items))
-          (sym (paths-kept c.args.packages.now i c.package-item.result c.packages-test.true c.package-item.is
+          (sym (paths-same c.args.packages.now i c.package-item.result c.packages-test.true c.package-item.is
           w.if-package.false)) c.packages.invariant)
     ]

@@ -7,7 +7,7 @@ use Rattle.edit_store.specs.Store.{OnlyReads}
 use Rattle.edit_version.specs.RustVersions.{numbers_of}
 use Rattle.edit_metadata.specs.Inputs.{HasFile, IsInputOf, IsNoInput, IsReadFrom, RustOptions, manifest_of, member_manifests}
 use Rattle.edit_metadata.specs.Workspaces.{package_view, packages_view}
-use Rattle.edit_metadata.proofs.InputLemmas.{manifests-kept, manifests-more, missing-among-members, no-input-later, reads-on}
+use Rattle.edit_metadata.proofs.InputLemmas.{manifests-same, manifests-more, missing-among-members, no-input-later, reads-on}
 use Rattle.edit_metadata.proofs.inputs.member_inputs.Goals as goal
 use Rattle.edit_metadata.proofs.inputs.member_inputs.Goals.{then-package+in_ok-input+in_ok-push, else-package}
 
@@ -29,21 +29,21 @@ packages-preserved g c =
     let p = c.package-item.result in
     let first = g.S.Store.view c.args.store.now in
     let before = c.packages.invariant in
-    let asked : RustOptions = record { given = option_map numbers_of c.args.given; ignored = c.args.ignore } in
+    let options : RustOptions = record { given = option_map numbers_of c.args.given; ignored = c.args.ignore } in
     let old = c.packages.inputs.items in
     elim c.if-package.branch [
       | then-package+in_ok-input+in_ok-push w ↦
           let input = w.in_ok-input.input in
           let pushed : c.if-package.inputs.items ≡ old ++ input ∷ []
           = ap (λ v. v.items) w.inputs-is ∙ w.in_ok-push.ensures.items in
-          let zipped = all_zipped_more (IsInputOf asked) (member_manifests (packages_view (take i ps))) old
+          let zipped = all_zipped_more (IsInputOf options) (member_manifests (packages_view (take i ps))) old
           (manifest_of (package_view p)) input before.inputs w.in_ok-input.ensures.input in
           let more = manifests-more ps i p c.packages-test.true c.package-item.is w.if-package.true in
           record {
             store = subst (λ s. OnlyReads first (g.S.Store.view s)) (sym w.store-is)
                 (reads-on _ _ _ before.store w.in_ok-input.ensures.reads);
-            inputs = subst (AllZip (IsInputOf asked) (member_manifests (packages_view (take (i + 1) ps))))
-                (sym pushed) (subst (λ ms. AllZip (IsInputOf asked) ms (old ++ input ∷ [])) (sym more)
+            inputs = subst (AllZip (IsInputOf options) (member_manifests (packages_view (take (i + 1) ps))))
+                (sym pushed) (subst (λ ms. AllZip (IsInputOf options) ms (old ++ input ∷ [])) (sym more)
                 zipped);
             bytes = λ tells. subst (All (IsReadFrom first.file_at)) (sym pushed)
                 (All-push (IsReadFrom first.file_at) old input (before.bytes tells)
@@ -60,13 +60,13 @@ packages-preserved g c =
                 }));
           }
       | else-package w ↦
-          let kept : c.if-package.inputs.items ≡ old = ap (λ v. v.items) w.inputs-is in
-          let same = manifests-kept ps i p c.packages-test.true c.package-item.is w.if-package.false in
+          let same_inputs : c.if-package.inputs.items ≡ old = ap (λ v. v.items) w.inputs-is in
+          let same = manifests-same ps i p c.packages-test.true c.package-item.is w.if-package.false in
           record {
             store = subst (λ s. OnlyReads first (g.S.Store.view s)) (sym w.store-is) before.store;
-            inputs = subst (AllZip (IsInputOf asked) (member_manifests (packages_view (take (i + 1) ps))))
-                (sym kept) (subst (λ ms. AllZip (IsInputOf asked) ms old) (sym same) before.inputs);
-            bytes = λ tells. subst (All (IsReadFrom first.file_at)) (sym kept) (before.bytes tells);
+            inputs = subst (AllZip (IsInputOf options) (member_manifests (packages_view (take (i + 1) ps))))
+                (sym same_inputs) (subst (λ ms. AllZip (IsInputOf options) ms old) (sym same) before.inputs);
+            bytes = λ tells. subst (All (IsReadFrom first.file_at)) (sym same_inputs) (before.bytes tells);
             files = λ tells. subst (All (HasFile first.file_at)) (sym same) (before.files tells);
           }
     ]

@@ -28,12 +28,12 @@ returns-in_err-inputs-clause-error g c =
 
 pub returns-then-has_path-clause-inputs : goal.returns-then-has_path-clause-inputs
 returns-then-has_path-clause-inputs g c =
-    let asked : RustOptions
+    let options : RustOptions
     = record { given = option_map numbers_of c.args.rust_version; ignored = c.args.ignore } in
     let is = c.in_ok-inputs.inputs.items in
     let has = c.has_path.ensures.0 c.if-has_path.true in
     of_members (string_bytes c.in_ok-root.root) is
-    (subst (λ ps. AllZip (IsInputOf asked) (member_manifests (packages_view ps)) is) c.deref.ensures.value
+    (subst (λ ps. AllZip (IsInputOf options) (member_manifests (packages_view ps)) is) c.deref.ensures.value
     c.in_ok-inputs.ensures.inputs) c.in_ok-root.ensures.path
     (subst (λ (xs : List Input). Contains (input_paths xs) (string_bytes c.in_ok-root.root))
     c.deref-2.ensures.value
@@ -66,18 +66,18 @@ returns-in_err-input-clause-error g c =
 pub returns-clause-inputs : goal.returns-clause-inputs
 returns-clause-inputs g c =
     let said = workspace_view c.args.workspace.now in
-    let asked : RustOptions
+    let options : RustOptions
     = record { given = option_map numbers_of c.args.rust_version; ignored = c.args.ignore } in
     let is = c.in_ok-inputs.inputs.items in
     let input = c.in_ok-input.input in
-    let root : IsInputOf asked (root_manifest said) input = record {
+    let root : IsInputOf options (root_manifest said) input = record {
       name = c.in_ok-input.ensures.name;
       path = subst (λ s. IsNormalOf (root_manifest said).path (string_bytes s))
           (sym c.in_ok-input.ensures.path)
           c.in_ok-root.ensures.path;
       rust_version = ap (option_map numbers_of) c.in_ok-input.ensures.rust_version
           ∙ c.rust_version_for-own.ensures
-          ∙ ap (rust_version_for asked) (c.least_rust_version-own.ensures
+          ∙ ap (rust_version_for options) (c.least_rust_version-own.ensures
           ∙ ap (λ ps. least (member_versions (packages_view ps))) c.deref-3.ensures.value);
     } in
     let none : Contains (input_paths is) (string_bytes input.path) → ⊥ = λ has.
@@ -86,7 +86,7 @@ returns-clause-inputs g c =
     cc (sym c.if-has_path.false ∙ c.has_path.ensures.1
     (subst (λ (xs : List Input). Contains (input_paths xs) c.as_str.result.now) (sym c.deref-2.ensures.value)
     there)) in
-    subst (AreInputs asked said) (sym c.in_ok-insert.ensures.items)
+    subst (AreInputs options said) (sym c.in_ok-insert.ensures.items)
     (with_root input is
-    (subst (λ ps. AllZip (IsInputOf asked) (member_manifests (packages_view ps)) is) c.deref.ensures.value
+    (subst (λ ps. AllZip (IsInputOf options) (member_manifests (packages_view ps)) is) c.deref.ensures.value
     c.in_ok-inputs.ensures.inputs) root none)

@@ -1,19 +1,19 @@
 use Rattle.std.proofs.Common.{◌∙◌, ◌≤◌, arith, inr}
 use Rattle.clap.specs.Words.{found_of, rows_of}
-use Rattle.edit_steps.proofs.ErrorFields.{on_refusal, refusal_has}
+use Rattle.edit_steps.proofs.ErrorFields.{on_failure, failure_has}
 use Rattle.edit_program.proofs.CheckLemmas.{check_after, dry_after, dry_versions, small_after}
 use Rattle.edit_program.proofs.CommandCases.{stopped_for}
 use Rattle.edit_program.proofs.commands.run_set_version.Goals as goal
 
 pub returns-in_err-due-clause-error : goal.returns-in_err-due-clause-error
-returns-in_err-due-clause-error g c = on_refusal c.from_residual.result _ (λ t.
-    stopped_for (rows_of (found_of c.args.matches.now)) _ _ c.args.current.now _ _ c.in-Ok.words
+returns-in_err-due-clause-error g c = on_failure c.from_residual.result _ (λ t.
+    stopped_for (rows_of (found_of c.args.matches.now)) _ _ c.args.current.now _ _ c.in-Ok.args
     c.in-Ok.ensures.asks (c.in_err-due.ensures.error t))
 
 pub returns-in_err-due-clause-why : goal.returns-in_err-due-clause-why
 returns-in_err-due-clause-why g c =
-    refusal_has c.from_residual.result c.in_err-due.field-0.0 _ c.from_residual.ensures.1 (inr (record {
-      asked = c.in-Ok.words;
+    failure_has c.from_residual.result c.in_err-due.field-0.0 _ c.from_residual.ensures.1 (inr (record {
+      args = c.in-Ok.args;
       asks = c.in-Ok.ensures.asks;
       cause = c.in_err-due.ensures.why;
     }))
@@ -32,7 +32,7 @@ returns-clause-answered g c two =
 
 pub returns-clause-checked : goal.returns-clause-checked
 returns-clause-checked g c one t =
-    dry_versions _ _ c.in-Ok.words _ c.in_ok-due.due _ _
+    dry_versions _ _ c.in-Ok.args _ c.in_ok-due.due _ _
     (c.in-Ok.ensures.asks.dry_run
     ∙ dry_after (rows_of (found_of c.args.matches.now)) c.in_ok-due.due _ c.status_after.ensures one)
     (c.in_ok-due.ensures.done t)
@@ -45,7 +45,7 @@ returns-clause-fault g c two =
 
 pub returns-clause-done : goal.returns-clause-done
 returns-clause-done g c other t = record {
-  asked = c.in-Ok.words;
+  args = c.in-Ok.args;
   asks = c.in-Ok.ensures.asks;
   due = c.in_ok-due.due;
   set = c.in_ok-due.ensures.done t;

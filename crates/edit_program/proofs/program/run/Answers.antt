@@ -15,7 +15,7 @@ returns-in-Ok-clause-failed g c one = inl (
 
 pub returns-in-Err-clause-failed : goal.returns-in-Err-clause-failed
 returns-in-Err-clause-failed g c one = inr (record {
-  error = c.in-Err.refusal.error;
+  error = c.in-Err.failure.error;
   cause = c.in-Err.ensures.why;
   counted = c.in-Err.ensures.counted;
   printed = g.E.Write.contents c.try_run.new.err;

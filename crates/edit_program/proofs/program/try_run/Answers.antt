@@ -10,14 +10,14 @@ use Rattle.edit_program.proofs.program.try_run.Goals as goal
 pub returns-clause-fault : goal.returns-clause-fault
 returns-clause-fault g c =
     let same : map (λ (w : Bor (List ℕ)). w.now) c.as_slice.result.now
-    ≡ insert_defaults (map (λ (w : Bor (List ℕ)). w.now) c.args.words.now) = search rules in
+    ≡ insert_defaults (map (λ (w : Bor (List ℕ)). w.now) c.args.args.now) = search rules in
     subst (λ (ws : List (List ℕ)). IfOk c.parse_and_run.result
     (λ s. s ≡ 2 → HasUsageError ws)) same c.parse_and_run.ensures.fault
 
 pub returns-clause-ended : goal.returns-clause-ended
 returns-clause-ended g c =
     let same : map (λ (w : Bor (List ℕ)). w.now) c.as_slice.result.now
-    ≡ insert_defaults (map (λ (w : Bor (List ℕ)). w.now) c.args.words.now) = search rules in
+    ≡ insert_defaults (map (λ (w : Bor (List ℕ)). w.now) c.args.args.now) = search rules in
     subst (λ (ws : List (List ℕ)). IfOk c.parse_and_run.result
     (λ s. s ≢ 2 → (g.S.Store.view c.args.files.now).tells ≡ true
     → IsEnded ws s (Appends (g.O.Write.contents c.args.out.now) (g.O.Write.contents c.parse_and_run.new.out))
@@ -29,7 +29,7 @@ returns-clause-ended g c =
 pub returns-clause-error : goal.returns-clause-error
 returns-clause-error g c =
     let same : map (λ (w : Bor (List ℕ)). w.now) c.as_slice.result.now
-    ≡ insert_defaults (map (λ (w : Bor (List ℕ)). w.now) c.args.words.now) = search rules in
+    ≡ insert_defaults (map (λ (w : Bor (List ℕ)). w.now) c.args.args.now) = search rules in
     subst (λ (ws : List (List ℕ)). OnErr c.parse_and_run.result
     ((g.S.Store.view c.args.files.now).tells ≡ true
     → IsRunFailure ws (Appends (g.O.Write.contents c.args.out.now) (g.O.Write.contents c.parse_and_run.new.out))
@@ -41,7 +41,7 @@ returns-clause-error g c =
 pub returns-clause-why : goal.returns-clause-why
 returns-clause-why g c =
     let same : map (λ (w : Bor (List ℕ)). w.now) c.as_slice.result.now
-    ≡ insert_defaults (map (λ (w : Bor (List ℕ)). w.now) c.args.words.now) = search rules in
+    ≡ insert_defaults (map (λ (w : Bor (List ℕ)). w.now) c.args.args.now) = search rules in
     subst (λ (ws : List (List ℕ)). IfErr c.parse_and_run.result
     (λ r. IsRunCause ws (Appends (g.O.Write.contents c.args.out.now) (g.O.Write.contents c.parse_and_run.new.out))
     (run_at c.args.place.now.current.now
@@ -51,6 +51,6 @@ returns-clause-why g c =
 pub returns-clause-requested : goal.returns-clause-requested
 returns-clause-requested g c =
     let same : map (λ (w : Bor (List ℕ)). w.now) c.as_slice.result.now
-    ≡ insert_defaults (map (λ (w : Bor (List ℕ)). w.now) c.args.words.now) = search rules in
+    ≡ insert_defaults (map (λ (w : Bor (List ℕ)). w.now) c.args.args.now) = search rules in
     subst (λ (ws : List (List ℕ)). IfOk c.parse_and_run.result (λ s. s ≡ 1 → HasCheckFlag ws)) same
     c.parse_and_run.ensures.requested

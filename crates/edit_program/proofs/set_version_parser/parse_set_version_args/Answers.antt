@@ -3,14 +3,14 @@ use Rattle.std.specs.Prelude.{Option, option_map}
 use Rattle.clap.specs.Words.{Text, first_of, found_of, rows_of}
 use Rattle.edit_set_version.specs.Bumps.{target_of}
 use Rattle.edit_program.specs.ParsedSetVersion.{HaveNoTarget, IsTarget}
-use Rattle.edit_program.proofs.ArgsLemmas.{err_same, kept_is, value_is}
+use Rattle.edit_program.proofs.ArgsLemmas.{err_same, option_text_is, value_is}
 use Rattle.edit_program.proofs.set_version_parser.parse_set_version_args.Goals as goal
 
 pub returns-in_err-target-clause-error : goal.returns-in_err-target-clause-error
 returns-in_err-target-clause-error c =
     let rows = rows_of (found_of c.args.matches.now) in
-    let version = kept_is c.args.matches.now (codes "target") c.get_str.result _ refl c.get_str.ensures in
-    let level = kept_is c.args.matches.now (codes "bump") c.get_str-2.result _ refl c.get_str-2.ensures in
+    let version = option_text_is c.args.matches.now (codes "target") c.get_str.result _ refl c.get_str.ensures in
+    let level = option_text_is c.args.matches.now (codes "bump") c.get_str-2.result _ refl c.get_str-2.ensures in
     err_same c.from_residual.result c.in_err-target.field-0.0 _ c.from_residual.ensures.1 (λ other.
     inr (inl (subst (λ (b : Option Text). HaveNoTarget (first_of (codes "target") rows) b) level
     (subst (λ (a : Option Text).
@@ -26,8 +26,8 @@ returns-in_err-presentation-clause-error c =
 pub returns-clause-asks : goal.returns-clause-asks
 returns-clause-asks c =
     let rows = rows_of (found_of c.args.matches.now) in
-    let version = kept_is c.args.matches.now (codes "target") c.get_str.result _ refl c.get_str.ensures in
-    let level = kept_is c.args.matches.now (codes "bump") c.get_str-2.result _ refl c.get_str-2.ensures in
+    let version = option_text_is c.args.matches.now (codes "target") c.get_str.result _ refl c.get_str.ensures in
+    let level = option_text_is c.args.matches.now (codes "bump") c.get_str-2.result _ refl c.get_str-2.ensures in
     record {
       metadata_json = value_is c.args.matches.now (codes "metadata-json") (codes "metadata.json")
           c.get_str-3.result c.unwrap_or.result _ c.get_str-3.ensures c.unwrap_or.ensures refl;

@@ -1,13 +1,13 @@
 use Rattle.std.proofs.Common.{Bool, Option, codes, inl, inr, refl, rules, subst}
 use Rattle.clap.specs.Words.{Text, first_of, found_of, rows_of}
 use Rattle.edit_program.specs.ParsedUpgrade.{HasNoRust, IsRust}
-use Rattle.edit_program.proofs.ArgsLemmas.{err_same, kept_is}
+use Rattle.edit_program.proofs.ArgsLemmas.{err_same, option_text_is}
 use Rattle.edit_program.proofs.upgrade_parser.parse_upgrade_args.Goals as goal
 
 pub returns-in_err-rust-clause-error : goal.returns-in_err-rust-clause-error
 returns-in_err-rust-clause-error c =
     let rows = rows_of (found_of c.args.matches.now) in
-    let named = kept_is c.args.matches.now (codes "rust-version") c.get_str.result _ refl c.get_str.ensures in
+    let named = option_text_is c.args.matches.now (codes "rust-version") c.get_str.result _ refl c.get_str.ensures in
     err_same c.from_residual.result c.in_err-rust.field-0.0 _ c.from_residual.ensures.1 (λ other.
     inr (inr (inl (subst (λ (b : Bool). HasNoRust (first_of (codes "rust-version") rows) b)
     c.is_given-ignored.ensures
@@ -23,14 +23,14 @@ returns-in_err-presentation-clause-error c =
 pub returns-clause-asks : goal.returns-clause-asks
 returns-clause-asks c =
     let rows = rows_of (found_of c.args.matches.now) in
-    let named = kept_is c.args.matches.now (codes "rust-version") c.get_str.result _ refl c.get_str.ensures in
+    let named = option_text_is c.args.matches.now (codes "rust-version") c.get_str.result _ refl c.get_str.ensures in
     record {
-      manifest = kept_is c.args.matches.now (codes "manifest-path") c.get_str-2.result _ refl c.get_str-2.ensures;
-      metadata = kept_is c.args.matches.now (codes "metadata-json") c.get_str-3.result _ refl c.get_str-3.ensures;
-      index = kept_is c.args.matches.now (codes "index-file") c.get_str-4.result _ refl c.get_str-4.ensures;
-      folder = kept_is c.args.matches.now (codes "index-dir") c.get_str-5.result _ refl c.get_str-5.ensures;
-      config = kept_is c.args.matches.now (codes "config") c.get_str-6.result _ refl c.get_str-6.ensures;
-      default_config = kept_is c.args.matches.now (codes "default-config") c.get_str-7.result _ refl
+      manifest = option_text_is c.args.matches.now (codes "manifest-path") c.get_str-2.result _ refl c.get_str-2.ensures;
+      metadata = option_text_is c.args.matches.now (codes "metadata-json") c.get_str-3.result _ refl c.get_str-3.ensures;
+      index = option_text_is c.args.matches.now (codes "index-file") c.get_str-4.result _ refl c.get_str-4.ensures;
+      folder = option_text_is c.args.matches.now (codes "index-dir") c.get_str-5.result _ refl c.get_str-5.ensures;
+      config = option_text_is c.args.matches.now (codes "config") c.get_str-6.result _ refl c.get_str-6.ensures;
+      default_config = option_text_is c.args.matches.now (codes "default-config") c.get_str-7.result _ refl
           c.get_str-7.ensures;
       one_index = search rules;
       rust = subst (λ (b : Bool). IsRust (first_of (codes "rust-version") rows) b c.in_ok-rust.rust)
@@ -39,7 +39,7 @@ returns-clause-asks c =
           c.in_ok-rust.ensures.ok);
       options = c.in_ok-options_of.ensures.options;
       presentation = c.in_ok-presentation.ensures.ok;
-      calls = kept_is c.args.matches.now (codes "update-calls") c.get_str-8.result _ refl c.get_str-8.ensures;
-      lock = kept_is c.args.matches.now (codes "lock-file") c.get_str-9.result _ refl c.get_str-9.ensures;
+      calls = option_text_is c.args.matches.now (codes "update-calls") c.get_str-8.result _ refl c.get_str-8.ensures;
+      lock = option_text_is c.args.matches.now (codes "lock-file") c.get_str-9.result _ refl c.get_str-9.ensures;
       offline = search rules;
     }

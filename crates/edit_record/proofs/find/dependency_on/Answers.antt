@@ -7,8 +7,8 @@ use Rattle.edit_record.proofs.find.dependency_on.Goals as goal
 
 pub returns-clause-ok : goal.returns-clause-ok
 returns-clause-ok c =
-    let P : Dependency → Type 0 = λ d. IsRegistryDependency (string_bytes c.args.told.now.name)
-    (string_bytes c.args.told.now.version) d in
+    let P : Dependency → Type 0 = λ d. IsRegistryDependency (string_bytes c.args.index_entry.now.name)
+    (string_bytes c.args.index_entry.now.version) d in
     let bare = c.in_ok-dependency.ensures.ok.0 in
     subst P (sym c.set_source.ensures) (
       record {

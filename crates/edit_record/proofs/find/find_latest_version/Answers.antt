@@ -3,7 +3,7 @@ use Rattle.std.specs.Prelude.{IfOk, IsTrue, option_map}
 use Rattle.edit_base.specs.declared.errors.Error.{Error}
 use Rattle.edit_version.specs.Admissible.{entry_order, is_qualifying}
 use Rattle.edit_record.specs.Finding.{IsFound, IsFoundAtLeast}
-use Rattle.edit_version.specs.Greatest.{IsGreatestKept}
+use Rattle.edit_version.specs.Greatest.{IsGreatestItem}
 use Rattle.edit_version.specs.IndexEntry.{IndexEntry, entry_of}
 use Rattle.edit_version.specs.Laws.{holds_dash}
 use Rattle.edit_version.specs.RustVersions.{Numbers, numbers_of}
@@ -16,7 +16,7 @@ at_least : (rust : Option Numbers) (pre : Bool) (entries : List IndexEntry)
     (r : Result (Option Dependency) Error)
     → IfOk r (λ o. IsFound rust (is_allowed pre) entries o)
     → IfOk r (λ o. (req : List ℕ) → (IsTrue (holds_dash req) → IsTrue pre) → (e : IndexEntry)
-    → IsGreatestKept (is_qualifying rust (is_admitted req)) entry_order entries e
+    → IsGreatestItem (is_qualifying rust (is_admitted req)) entry_order entries e
     → IsFoundAtLeast rust (is_allowed pre) entries e o)
 at_least rust pre entries (Ok o) h = λ req dash e g. found-at_least rust pre entries o h req dash e g
 at_least rust pre entries (Err e) h = tt

@@ -1,6 +1,6 @@
 -- Each write makes one more file complete, and the first failed write stops.
 use Rattle.std.proofs.Common.{◌∙◌, arith, refl, subst}
-use Rattle.edit_report.proofs.ApplyLemmas.{on_refusal, stopped_at, written_more, written_none}
+use Rattle.edit_report.proofs.ApplyLemmas.{on_failure, stopped_at, written_more, written_none}
 use Rattle.edit_report.specs.Applied.{IsWhole, path_of}
 use Rattle.edit_report.specs.declared.output.Output.{Output}
 use Rattle.edit_store.specs.Store.{IsWrittenAtMostOnce, IsWrittenOnce, SameBut}
@@ -10,7 +10,7 @@ pub returns-in_err-write_output-clause-stopped : goal.returns-in_err-write_outpu
 returns-in_err-write_output-clause-stopped g c =
     let mid = g.S.Store.view c.loop-output.store in
     let new = g.S.Store.view c.write_output.new.store in
-    on_refusal _ _ (stopped_at c.args.outputs.now c.loop-output.output-index c.output-item.result
+    on_failure _ _ (stopped_at c.args.outputs.now c.loop-output.output-index c.output-item.result
     (g.S.Store.view c.args.store.now) mid new c.requires (omega arith) c.loop-output.invariant.written
     (subst (λ (o : Output). SameBut (path_of o) mid.file_at new.file_at) c.output-item.is
     c.write_output.ensures.others)

@@ -3,7 +3,7 @@ use Rattle.std.proofs.lemmas.Result.{err_from_is_err_and}
 use Rattle.edit_syntax.specs.Characters.{comma, right_brace}
 use Rattle.edit_syntax.specs.Reading.{first, past_gap}
 use Rattle.edit_tree.specs.EditBytes.{behind_last}
-use Rattle.edit_rewrite.proofs.InlineSpots.{past_value, table_past}
+use Rattle.edit_rewrite.proofs.InlineSuffixes.{past_value, table_past}
 use Rattle.edit_rewrite.proofs.SlotSteps.{keeps_memory}
 use Rattle.edit_rewrite.proofs.SlotTurns.{stop_is}
 use Rattle.edit_rewrite.proofs.MemberTurns.{AtMembers, members_start, members_closed, members_front, members_over}

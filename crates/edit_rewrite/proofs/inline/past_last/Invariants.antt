@@ -3,7 +3,7 @@ use Rattle.edit_syntax.specs.Characters.{right_brace}
 use Rattle.edit_syntax.specs.Grammar.{Between, Members}
 use Rattle.edit_tree.specs.EditBytes.{behind_last}
 use Rattle.edit_tree.specs.SlotTexts.{TableAt}
-use Rattle.edit_rewrite.proofs.InlineSpots.{past_value}
+use Rattle.edit_rewrite.proofs.InlineSuffixes.{past_value}
 use Rattle.edit_rewrite.proofs.MemberTurns.{AtMembers}
 use Rattle.edit_rewrite.proofs.inline.past_last.Given as goal
 

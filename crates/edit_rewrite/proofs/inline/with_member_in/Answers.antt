@@ -7,7 +7,7 @@ use Rattle.edit_syntax.specs.Reading.{first, past_gap}
 use Rattle.edit_tree.specs.EditBytes.{Splice, with_splice, behind_last, inline_grown}
 use Rattle.edit_tree.specs.SlotTexts.{TableAt}
 use Rattle.edit_rewrite.proofs.GrownInline.{none_there, full_row}
-use Rattle.edit_rewrite.proofs.InlineSpots.{inline_spots}
+use Rattle.edit_rewrite.proofs.InlineSuffixes.{inline_suffixes}
 use Rattle.edit_rewrite.proofs.SlotSteps.{keeps_memory}
 use Rattle.edit_rewrite.proofs.inline.with_member_in.Goals as goal
 
@@ -41,5 +41,5 @@ returns c g ms after s h is =
     MatchResult-from_both c.with_lead.result _ _
     (IfOk-weaker c.with_lead.result _ _ (λ t e. e ∙ ap (λ (x : Splice). with_splice text x) (sym row))
     (c.with_lead.ensures.text (behind_last ms (right_brace ∷ after))
-    (inline_spots text table g ms after c.utf8.text h).last (ap length last)))
+    (inline_suffixes text table g ms after c.utf8.text h).last (ap length last)))
     c.with_lead.ensures.error

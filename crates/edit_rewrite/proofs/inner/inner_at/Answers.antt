@@ -41,12 +41,12 @@ returns c above it g rest h start =
     let f = pair_at_front text s _ it g rest h refl in
     let more = f.a ++ (equals ∷ (f.b ++ value f.v (gap g rest))) in
     let n = c.in_ok-value.ensures {u = tt} f.k f.a f.b (value f.v (gap g rest)) f.naming f.spelled in
-    let marks : c.as_slice.result.now ≡ tokens_of_key f.k more ++ [] =
-    c.as_slice.ensures.value ∙ n.1 ∙ ap (λ (l : List SyntaxToken). l ++ tokens_of_key f.k more) c.new-marks.ensures.items
+    let tokens : c.as_slice.result.now ≡ tokens_of_key f.k more ++ [] =
+    c.as_slice.ensures.value ∙ n.1 ∙ ap (λ (l : List SyntaxToken). l ++ tokens_of_key f.k more) c.new-tokens.ensures.items
     ∙ sym (append-nil (tokens_of_key f.k more)) in
     let ends : Ends text (key f.k more) =
     (h.within.0, h.within.1 ∙ ap (λ (x : List ℕ). h.within.0 ++ x) f.spelled) in
-    let are = subst (λ (ms : List SyntaxToken). AreParts text (parts f.k more) ms) (sym marks)
+    let are = subst (λ (ms : List SyntaxToken). AreParts text (parts f.k more) ms) (sym tokens)
     (key_are text f.k more [] f.naming.key c.utf8.text ends refl) in
     let goes = (c.in_ok-front.ensures {u = tt}).goes above unresolved _ _ are (follows_itself place) start in
     let behind = c.in_ok-rest.ensures {u = tt} f.v g rest f.item n.0 in (

@@ -9,16 +9,16 @@ use Rattle.edit_rewrite.proofs.inside.+is_named.Goals as goal
 pub returns-in_err-is_step : goal.returns-in_err-is_step
 returns-in_err-is_step t c ns h =
     let p = err_from_is_err_and c.from_residual.result c.from_residual.ensures.1 in
-    let f = first_said c.args.text.now c.args.marks.now ns
-    (omega (arith, c.in-len1-up-marks.len_at_least)) h in
+    let f = first_said c.args.text.now c.args.tokens.now ns
+    (omega (arith, c.in-len1-up-tokens.len_at_least)) h in
     keeps_memory c.from_residual.result c.in_err-is_step.field-0.0 p.0
     (λ b. b ≡ is_within (place_view c.args.steps.now) (map key ns)) p.1 p.2
     (c.in_err-is_step.ensures {u = tt} f.name (f.said _))
 
 pub returns-then-branch : goal.returns-then-branch
 returns-then-branch t c ns h =
-    let f = first_said c.args.text.now c.args.marks.now ns
-    (omega (arith, c.in-len1-up-marks.len_at_least)) h in
+    let f = first_said c.args.text.now c.args.tokens.now ns
+    (omega (arith, c.in-len1-up-tokens.len_at_least)) h in
     let turned = within_turn c.args.steps.now c.step-item.result f.name f.others ns
     (omega (arith, c.in-len1-up.len_at_least)) c.step-item.is f.is in
     let here = c.in_ok-is_step.ensures {u = tt} f.name (f.said _) in
@@ -29,8 +29,8 @@ returns-then-branch t c ns h =
 
 pub returns-else-branch : goal.returns-else-branch
 returns-else-branch t c ns h =
-    let f = first_said c.args.text.now c.args.marks.now ns
-    (omega (arith, c.in-len1-up-marks.len_at_least)) h in
+    let f = first_said c.args.text.now c.args.tokens.now ns
+    (omega (arith, c.in-len1-up-tokens.len_at_least)) h in
     let turned = within_turn c.args.steps.now c.step-item.result f.name f.others ns
     (omega (arith, c.in-len1-up.len_at_least)) c.step-item.is f.is in
     let here = c.in_ok-is_step.ensures {u = tt} f.name (f.said _) in

@@ -26,9 +26,9 @@ returns-in_err-is_gone c it g rest h =
     let f = pair_at_front c.args.text.now c.args.s.now c.args.is_table it g rest h c.if-not-is_table.false in
     let n = c.in_ok-value.ensures {u = tt} f.k f.a f.b (value f.v (gap g rest)) f.naming f.spelled in
     let all = tokens_of_key f.k (f.a ++ (equals ∷ (f.b ++ value f.v (gap g rest)))) in
-    let marks : c.as_slice.result.now ≡ all = c.as_slice.ensures.value ∙ n.1 ∙
-    ap (λ (l : List SyntaxToken). l ++ all) c.new-marks.ensures.items in
-    let said = subst (λ (ms : List SyntaxToken). AreDecodedAs c.args.text.now ms (names f.k)) (sym marks) f.said in
+    let tokens : c.as_slice.result.now ≡ all = c.as_slice.ensures.value ∙ n.1 ∙
+    ap (λ (l : List SyntaxToken). l ++ all) c.new-tokens.ensures.items in
+    let said = subst (λ (ms : List SyntaxToken). AreDecodedAs c.args.text.now ms (names f.k)) (sym tokens) f.said in
     keeps_memory c.from_residual-in_err-is_gone.result c.in_err-is_gone.field-0.0 p.0
     (λ r. (r.0 ≡ is_item_removed (place_view c.args.below.now) c.args.index it) × (r.1.now ≡ gap g rest)) p.1 p.2
     (c.in_err-is_gone.ensures {u = tt} (names f.k) said)
@@ -49,9 +49,9 @@ returns c it g rest h =
     let f = pair_at_front c.args.text.now c.args.s.now c.args.is_table it g rest h c.if-not-is_table.false in
     let n = c.in_ok-value.ensures {u = tt} f.k f.a f.b (value f.v (gap g rest)) f.naming f.spelled in
     let all = tokens_of_key f.k (f.a ++ (equals ∷ (f.b ++ value f.v (gap g rest)))) in
-    let marks : c.as_slice.result.now ≡ all = c.as_slice.ensures.value ∙ n.1 ∙
-    ap (λ (l : List SyntaxToken). l ++ all) c.new-marks.ensures.items in
-    let said = subst (λ (ms : List SyntaxToken). AreDecodedAs c.args.text.now ms (names f.k)) (sym marks) f.said in (
+    let tokens : c.as_slice.result.now ≡ all = c.as_slice.ensures.value ∙ n.1 ∙
+    ap (λ (l : List SyntaxToken). l ++ all) c.new-tokens.ensures.items in
+    let said = subst (λ (ms : List SyntaxToken). AreDecodedAs c.args.text.now ms (names f.k)) (sym tokens) f.said in (
       c.in_ok-is_gone.ensures {u = tt} (names f.k) said ∙ ap (is_item_removed below c.args.index) (sym f.is),
       c.in_ok-rest-2.ensures {u = tt} f.v g rest f.item n.0,
     )

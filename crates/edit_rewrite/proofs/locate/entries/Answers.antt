@@ -22,16 +22,16 @@ returns-then-is_empty-clause-found c form m =
     let target = place_view c.args.place.now in
     let d = c.lines.invariant form m in
     let f = c.in-Ok.ensures.only d.left d.same d.valid d.shallow in
-    let marks = c.as_slice-seen.result.now in
-    let marked : marks ≡ tokens_of_first_line d.left = c.as_slice-seen.ensures.value ∙ f.1 ∙
+    let tokens = c.as_slice-seen.result.now in
+    let tokens_are : tokens ≡ tokens_of_first_line d.left = c.as_slice-seen.ensures.value ∙ f.1 ∙
     ap (λ (xs : List SyntaxToken). xs ++ tokens_of_first_line d.left) c.clear.ensures.items in
     let after = c.in-Ok.after.now in
     let next = c.next_line-next.result.now in
     let over : length after ≡ 0 = eqb-true _ _ (sym c.is_empty-in-lines.ensures ∙ c.if-is_empty.true) in
     elim c.if-not-is_empty.branch [
       | then-not-is_empty+in_ok-take+in_ok-push w ↦
-          let some : length marks ≡ 0 → ⊥ = eqb-false _ _ (sym c.is_empty.ensures ∙ w.if-not-is_empty.true) in
-          let spots : StatementOffsets = record {
+          let some : length tokens ≡ 0 → ⊥ = eqb-false _ _ (sym c.is_empty.ensures ∙ w.if-not-is_empty.true) in
+          let offsets : StatementOffsets = record {
             line = length c.lines.rest.now;
             key = w.first_from.result;
             after = length after;
@@ -39,14 +39,14 @@ returns-then-is_empty-clause-found c form m =
           } in
           ap (λ v. v.items) w.found-is ∙ (w.in_ok-push.ensures {u = tt}).items
           ∙ end_full text c.utf8.text target form c.lines.standing c.lines.found.items c.lines.rest.now after
-          next marks d f.0 marked w.take.new.self w.in_ok-take.field-0 spots
+          next tokens d f.0 tokens_are w.take.new.self w.in_ok-take.field-0 offsets
           (w.in_ok-take.ensures {u = tt}).taken
           refl w.first_from.ensures refl refl some over c.next_line-next.ensures.end
       | else-not-is_empty w ↦
-          let none : length marks ≡ 0 = eqb-true _ _ (sym c.is_empty.ensures ∙ w.if-not-is_empty.false) in
+          let none : length tokens ≡ 0 = eqb-true _ _ (sym c.is_empty.ensures ∙ w.if-not-is_empty.false) in
           ap (λ v. v.items) w.found-is ∙
           end_empty text c.utf8.text target form c.lines.standing c.lines.found.items c.lines.rest.now after
-          next marks d f.0 marked none over
+          next tokens d f.0 tokens_are none over
     ]
 
 pub lines-preserved : goal.lines-preserved
@@ -55,16 +55,16 @@ lines-preserved c form m =
     let target = place_view c.args.place.now in
     let d = c.lines.invariant form m in
     let f = c.in-Ok.ensures.only d.left d.same d.valid d.shallow in
-    let marks = c.as_slice-seen.result.now in
-    let marked : marks ≡ tokens_of_first_line d.left = c.as_slice-seen.ensures.value ∙ f.1 ∙
+    let tokens = c.as_slice-seen.result.now in
+    let tokens_are : tokens ≡ tokens_of_first_line d.left = c.as_slice-seen.ensures.value ∙ f.1 ∙
     ap (λ (xs : List SyntaxToken). xs ++ tokens_of_first_line d.left) c.clear.ensures.items in
     let after = c.in-Ok.after.now in
     let next = c.next_line-next.result.now in
     let more : length after ≡ 0 → ⊥ = eqb-false _ _ (sym c.is_empty-in-lines.ensures ∙ c.if-is_empty.false) in
     elim c.if-not-is_empty.branch [
       | then-not-is_empty+in_ok-take+in_ok-push w ↦
-          let some : length marks ≡ 0 → ⊥ = eqb-false _ _ (sym c.is_empty.ensures ∙ w.if-not-is_empty.true) in
-          let spots : StatementOffsets = record {
+          let some : length tokens ≡ 0 → ⊥ = eqb-false _ _ (sym c.is_empty.ensures ∙ w.if-not-is_empty.true) in
+          let offsets : StatementOffsets = record {
             line = length c.lines.rest.now;
             key = w.first_from.result;
             after = length after;
@@ -73,13 +73,13 @@ lines-preserved c form m =
           at_line_as c.if-not-is_empty.standing w.take.new.self c.if-not-is_empty.found.items _ w.standing-is
           (ap (λ v. v.items) w.found-is ∙ (w.in_ok-push.ensures {u = tt}).items)
           (turn_full text c.utf8.text target form c.lines.standing c.lines.found.items c.lines.rest.now after
-          next marks d f.0 marked w.take.new.self w.in_ok-take.field-0 spots
+          next tokens d f.0 tokens_are w.take.new.self w.in_ok-take.field-0 offsets
           (w.in_ok-take.ensures {u = tt}).taken
           refl w.first_from.ensures refl refl some more c.next_line-next.ensures.next)
       | else-not-is_empty w ↦
-          let none : length marks ≡ 0 = eqb-true _ _ (sym c.is_empty.ensures ∙ w.if-not-is_empty.false) in
+          let none : length tokens ≡ 0 = eqb-true _ _ (sym c.is_empty.ensures ∙ w.if-not-is_empty.false) in
           at_line_as c.if-not-is_empty.standing c.lines.standing c.if-not-is_empty.found.items
           c.lines.found.items w.standing-is (ap (λ v. v.items) w.found-is)
           (turn_empty text c.utf8.text target form c.lines.standing c.lines.found.items c.lines.rest.now after
-          next marks d f.0 marked none more c.next_line-next.ensures.next)
+          next tokens d f.0 tokens_are none more c.next_line-next.ensures.next)
     ]

@@ -13,7 +13,7 @@ use Rattle.edit_rewrite.specs.Entries.{AreParts}
 use Rattle.edit_document.specs.Items.{place_view}
 use Rattle.edit_tree.specs.SlotTexts.{Ends}
 use Rattle.edit_tree.specs.Statements.{Named, dotted_parts, parts}
-use Rattle.edit_rewrite.proofs.EntryParts.{part_told}
+use Rattle.edit_rewrite.proofs.EntryParts.{part_offset_is}
 use Rattle.edit_rewrite.proofs.KeyWays.{key_are}
 use Rattle.edit_rewrite.proofs.Ways.{follows_itself}
 use Rattle.edit_rewrite.proofs.members.past_member.Goals as goal
@@ -33,16 +33,16 @@ returns-clause-outcome c table k a b v g rest st begins =
     record { valid = w.4; shallow = w.5; between = st.between; ends = st.ends } in
     let read = c.in-Ok.ensures k a b more naming st.spelled in
     let all = tokens_of_key k behind in
-    let marks : c.as_slice-seen.result.now ≡ all =
-    c.as_slice-seen.ensures.value ∙ read.1 ∙ ap (λ (l : List SyntaxToken). l ++ all) c.new-marks.ensures.items in
+    let tokens : c.as_slice-seen.result.now ≡ all =
+    c.as_slice-seen.ensures.value ∙ read.1 ∙ ap (λ (l : List SyntaxToken). l ++ all) c.new-tokens.ensures.items in
     let ends : Ends text (strings.key k behind) =
     (st.within.0, st.within.1 ∙ ap (λ (x : List ℕ). st.within.0 ++ x) st.spelled) in
-    let are = subst (λ (l : List SyntaxToken). AreParts text (parts k behind) l) (append-nil all ∙ sym marks)
+    let are = subst (λ (l : List SyntaxToken). AreParts text (parts k behind) l) (append-nil all ∙ sym tokens)
     (key_are text k behind [] w.1 c.utf8.text ends refl) in
     let goes =
     (c.in_ok-named.ensures {u = tt}).goes table unresolved n ns are (follows_itself place) begins in (
       c.part_end.ensures
-          ∙ part_told text place table n ns c.as_slice-seen.result.now
+          ∙ part_offset_is text place table n ns c.as_slice-seen.result.now
           (c.in_ok-named.named, c.in_ok-named.front) are goes,
       c.in-Ok-past_value.ensures v g rest item read.0,
     )

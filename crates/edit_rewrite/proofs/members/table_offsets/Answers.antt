@@ -4,14 +4,14 @@ use Rattle.edit_syntax.specs.Reading.{first, past_gap}
 use Rattle.std.specs.Prelude.{drop}
 use Rattle.edit_document.specs.Items.{place_view}
 use Rattle.edit_tree.specs.Slots.{of_pair}
-use Rattle.edit_rewrite.proofs.NamedMembers.{members_start, no_members_told, members_closed, members_over, members_front}
+use Rattle.edit_rewrite.proofs.NamedMembers.{members_start, no_member_offsets, members_closed, members_over, members_front}
 use Rattle.edit_rewrite.proofs.SlotTurns.{stop_is}
-use Rattle.edit_rewrite.proofs.ToldPairs.{mapped, unmapped}
+use Rattle.edit_rewrite.proofs.PairOffsetLemmas.{mapped, unmapped}
 use Rattle.edit_rewrite.proofs.members.table_offsets.Goals as goal
 
 pub returns-then-not-begins-clause-outcome : goal.returns-then-not-begins-clause-outcome
 returns-then-not-begins-clause-outcome c w st e begins =
-    no_members_told c.args.text.now c.args.s.now (place_view c.args.place.now) w st e
+    no_member_offsets c.args.text.now c.args.s.now (place_view c.args.place.now) w st e
     (sym c.begins.ensures ∙ c.if-not-begins.true)
 
 pub members-init : goal.members-init

@@ -1,7 +1,7 @@
 use Rattle.std.proofs.Common.{◌≡◌, length}
 use Rattle.edit_syntax.specs.Grammar.{value}
 use Rattle.edit_rewrite.specs.Entries.{path_match}
-use Rattle.edit_rewrite.specs.EntrySpots.{StandsIn}
+use Rattle.edit_rewrite.specs.PairOffsets.{StandsIn}
 use Rattle.edit_document.specs.Items.{place_view}
 use Rattle.edit_tree.specs.Written.{PlacedValue}
 use Rattle.edit_rewrite.proofs.NamedMembers.{MembersLeft}

@@ -28,7 +28,7 @@ entries-preserved c form m =
     let xs = c.as_slice-found.result.now in
     let i = c.entries.entry-index in
     let e = get_or xs i no_entry in
-    let whole = byte_order_mark form.marked (lines_left gone (lines form.lines) (placed_statements form)) in
+    let whole = byte_order_mark form.has_byte_order_mark (lines_left gone (lines form.lines) (placed_statements form)) in
     let done = string_bytes c.entries.out in
     let at = subst (AtStatement text gone whole done c.entries.from)
     (drop_more xs i no_entry c.entries-test.true)
@@ -48,7 +48,7 @@ returns-clause-text c form m =
     let text = c.args.text.now in
     let gone = place_view c.args.place.now in
     let xs = c.as_slice-found.result.now in
-    let whole = byte_order_mark form.marked (lines_left gone (lines form.lines) (placed_statements form)) in
+    let whole = byte_order_mark form.has_byte_order_mark (lines_left gone (lines form.lines) (placed_statements form)) in
     let done = string_bytes c.entries.out in
     past_last text gone whole done _ c.entries.from
     (subst (AtStatement text gone whole done c.entries.from)

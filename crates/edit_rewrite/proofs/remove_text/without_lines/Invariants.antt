@@ -13,5 +13,5 @@ abbrev pub invariant-entries : goal.invariant-entries
 invariant-entries l =
     let gone = place_view l.place in
     (form : Text) → IsDocument l.text form → AtStatement l.text gone
-    (byte_order_mark form.marked (lines_left gone (lines form.lines) (placed_statements form)))
+    (byte_order_mark form.has_byte_order_mark (lines_left gone (lines form.lines) (placed_statements form)))
     (string_bytes l.out) l.from (drop l.entry-index l.found)

@@ -1,6 +1,6 @@
 use Rattle.std.proofs.Common.{◌≡◌, None, take}
 use Rattle.edit_tree.specs.EditBytes.{first_result}
-use Rattle.edit_rewrite.specs.EntrySpots.{within_entry}
+use Rattle.edit_rewrite.specs.PairOffsets.{within_entry}
 use Rattle.edit_rewrite.proofs.replace_entry.first_within.Given as goal
 
 -- none so far

@@ -2,7 +2,7 @@ use Rattle.std.proofs.Common.{List, ℕ, ◌++◌, ap, ◌∙◌}
 use Rattle.std.proofs.lemmas.Result.{IfOk-weaker}
 use Rattle.edit_syntax.specs.Strings.{line_end}
 use Rattle.edit_tree.specs.EditBytes.{put_before, with_splice, end_like}
-use Rattle.edit_rewrite.proofs.SpotTexts.{cut_rest}
+use Rattle.edit_rewrite.proofs.SuffixTexts.{cut_rest}
 use Rattle.edit_rewrite.proofs.splices.with_line.Goals as goal
 
 pub returns-clause-text : goal.returns-clause-text

@@ -1,5 +1,5 @@
 use Rattle.std.proofs.Common.{List, ℕ, ◌++◌, ap, ◌∙◌}
-use Rattle.edit_rewrite.proofs.SpotTexts.{text_swapped}
+use Rattle.edit_rewrite.proofs.SuffixTexts.{text_swapped}
 use Rattle.edit_rewrite.proofs.splices.with_swap.Goals as goal
 
 pub returns-clause-text : goal.returns-clause-text

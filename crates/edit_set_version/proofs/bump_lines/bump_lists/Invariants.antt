@@ -1,6 +1,6 @@
 use Rattle.std.proofs.Common.{◌≡◌, ◌∷◌, [], map, take}
 use Rattle.edit_set_version.specs.Crates.{bumps_view}
-use Rattle.edit_set_version.specs.ToldLines.{bump_line_view, line_lists_view}
+use Rattle.edit_set_version.specs.LineViews.{bump_line_view, line_lists_view}
 use Rattle.edit_set_version.proofs.bump_lines.bump_lists.Given as goal
 
 abbrev pub invariant-bumps : goal.invariant-bumps

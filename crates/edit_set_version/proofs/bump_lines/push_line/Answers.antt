@@ -1,5 +1,5 @@
 use Rattle.std.proofs.Common.{arith}
-use Rattle.edit_set_version.specs.ToldLines.{report_line_view}
+use Rattle.edit_set_version.specs.LineViews.{report_line_view}
 use Rattle.edit_set_version.proofs.LineLists.{line_past, line_put}
 use Rattle.edit_set_version.proofs.bump_lines.push_line.Goals as goal
 

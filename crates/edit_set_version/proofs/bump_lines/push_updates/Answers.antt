@@ -1,7 +1,7 @@
 use Rattle.std.proofs.Common.{◌≡◌, ◌∙◌, ◌+◌, ◌++◌, ◌∷◌, [], ap, map, subst, sym, take}
 use Rattle.std.proofs.lemmas.List.{map_more}
 use Rattle.edit_set_version.specs.Dependents.{HasRaisedText, numbered_dependent_view}
-use Rattle.edit_set_version.specs.ToldLines.{line_lists_view, with_updates}
+use Rattle.edit_set_version.specs.LineViews.{line_lists_view, with_updates}
 use Rattle.edit_set_version.proofs.LineLists.{no_updates, updates_in_parts}
 use Rattle.edit_set_version.proofs.bump_lines.push_updates.Goals as goal
 

@@ -1,7 +1,7 @@
 use Rattle.std.proofs.Common.{◌≡◌, map, take}
 use Rattle.std.specs.Prelude.{All}
 use Rattle.edit_set_version.specs.Dependents.{HasRaisedText, numbered_dependent_view}
-use Rattle.edit_set_version.specs.ToldLines.{line_lists_view, with_updates}
+use Rattle.edit_set_version.specs.LineViews.{line_lists_view, with_updates}
 use Rattle.edit_set_version.proofs.bump_lines.push_updates.Given as goal
 
 abbrev pub invariant-dependents : goal.invariant-dependents

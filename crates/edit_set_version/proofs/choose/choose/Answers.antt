@@ -10,7 +10,7 @@ use Rattle.edit_set_version.specs.PlanCauses.{IsExcludeError}
 use Rattle.edit_set_version.specs.Selections.{selection_view}
 use Rattle.edit_set_version.specs.SelectedNames.{is_in}
 use Rattle.edit_set_version.specs.declared.choose.Part.TheVariants.{Others}
-use Rattle.edit_set_version.proofs.ChoiceLemmas.{asked_part, inheriting_part, others_part}
+use Rattle.edit_set_version.proofs.ChoiceLemmas.{selected_part, inheriting_part, others_part}
 use Rattle.edit_set_version.proofs.choose.choose.Goals as goal
 use Rattle.edit_set_version.proofs.choose.choose.Goals.{then-is_whole_selected, else-is_whole_selected}
 
@@ -54,7 +54,7 @@ returns-clause-chosen c =
     ∙ ap (λ xs. if length (inheriting_members a ms) == 0 then [] else xs) (others_part a w ms is) in
     ap members_of c.in_ok-extend_from_slice.ensures.items
     ∙ map-append member_of c.in_ok-chosen.chosen.items c.deref-4.result.now
-    ∙ ap₂ (λ (x y : List Member). x ++ y) (c.in_ok-chosen.ensures.ok ∙ asked_part a w ms is)
+    ∙ ap₂ (λ (x y : List Member). x ++ y) (c.in_ok-chosen.ensures.ok ∙ selected_part a w ms is)
     (ap members_of c.deref-4.ensures.value ∙ more)
 
 pub returns-clause-workspace : goal.returns-clause-workspace

@@ -4,7 +4,7 @@ use Rattle.std.specs.Prelude.{if◌then◌else◌}
 use Rattle.std.proofs.lemmas.List.{take_all}
 use Rattle.edit_set_version.specs.Crates.{member_of, members_of}
 use Rattle.edit_set_version.specs.SelectedNames.{is_in}
-use Rattle.edit_set_version.proofs.ChoiceLemmas.{kept_more}
+use Rattle.edit_set_version.proofs.ChoiceLemmas.{filter_more}
 use Rattle.edit_set_version.proofs.choose.crates_in.Goals as goal
 
 pub crates-preserved : goal.crates-preserved
@@ -14,7 +14,7 @@ crates-preserved c =
     c.in_ok-push_where.ensures.ok
     ∙ ap (λ b. members_of c.crates.list.items ++ (if b then own ∷ [] else [])) c.is_in-keep.ensures
     ∙ ap (λ ms. ms ++ (if test own then own ∷ [] else [])) c.crates.invariant
-    ∙ sym (kept_more test member_of c.args.crates.now c.crates.found-index c.found-item.result
+    ∙ sym (filter_more test member_of c.args.crates.now c.crates.found-index c.found-item.result
     c.crates-test.true c.found-item.is)
 
 pub crates-init : goal.crates-init

@@ -6,7 +6,7 @@ use Rattle.std.proofs.lemmas.List.{take_all}
 use Rattle.edit_set_version.specs.Chosen.{Member, is_among}
 use Rattle.edit_set_version.specs.Crates.{member_of, members_of}
 use Rattle.edit_set_version.specs.Selections.{selection_view}
-use Rattle.edit_set_version.proofs.ChoiceLemmas.{kept_more}
+use Rattle.edit_set_version.proofs.ChoiceLemmas.{filter_more}
 use Rattle.edit_set_version.proofs.choose.excluded_among.Goals as goal
 
 pub crates-preserved : goal.crates-preserved
@@ -20,7 +20,7 @@ crates-preserved c =
     ∙ c.in_ok-excluded.ensures.ok own.name
     ∙ ap (λ xs. is_among (map string_bytes xs) own.name) c.deref.ensures.value)
     ∙ ap (λ ms. ms ++ (if test own then own ∷ [] else [])) c.crates.invariant
-    ∙ sym (kept_more test member_of c.args.crates.now c.crates.found-index c.found-item.result
+    ∙ sym (filter_more test member_of c.args.crates.now c.crates.found-index c.found-item.result
     c.crates-test.true c.found-item.is)
 
 pub crates-init : goal.crates-init

@@ -3,7 +3,7 @@ use Rattle.std.specs.Prelude.{if◌then◌else◌}
 use Rattle.std.proofs.lemmas.List.{take_all}
 use Rattle.edit_metadata.specs.Metadata.{PackageModel, members}
 use Rattle.edit_metadata.specs.Workspaces.{package_view, packages_view}
-use Rattle.edit_set_version.proofs.ChoiceLemmas.{kept_more}
+use Rattle.edit_set_version.proofs.ChoiceLemmas.{filter_more}
 use Rattle.edit_set_version.proofs.crates.members_in.Goals as goal
 
 pub packages-preserved : goal.packages-preserved
@@ -11,7 +11,7 @@ packages-preserved c =
     let own = package_view c.found-item.result in
     c.in_ok-push_member.ensures.ok
     ∙ ap (λ ps. ps ++ (if own.member then own ∷ [] else [])) c.packages.invariant
-    ∙ sym (kept_more (λ (p : PackageModel). p.member) package_view c.args.packages.now c.packages.found-index
+    ∙ sym (filter_more (λ (p : PackageModel). p.member) package_view c.args.packages.now c.packages.found-index
     c.found-item.result c.packages-test.true c.found-item.is)
 
 pub packages-init : goal.packages-init

@@ -15,13 +15,13 @@ returns-in_err-dependent-in-Some-clause-error c =
     let file = c.args.file.now in
     let q = path_dependency_view c.args.entry in
     let n = numbered_view c.in-Some.bump in
-    let told = c.in_ok-bump.ensures.ok
+    let numbered = c.in_ok-bump.ensures.ok
     ∙ ap (λ p. numbered_at c.args.numbers.now (resolve_folder file p)) c.as_str.ensures.value in
     let p = err_from_is_err_and c.from_residual-in_err-dependent-in-Some.result
     c.from_residual-in_err-dependent-in-Some.ensures.1 in
     rw (p.1, p.2) (λ bs tells. stays (record { place = q.place; text = q.text; next = n.1 })
     (led_numbered bs file q ∙ ap (option_map (λ n. n.1)) (numbered_by bs c.args.numbers.now file q
-    (option_map numbered_view c.in_ok-bump.bump) tells told
+    (option_map numbered_view c.in_ok-bump.bump) tells numbered
     ∙ ap (λ b. option_map (λ n. (n.0, record { place = q.place; text = q.text; next = n.1 }))
     (option_map numbered_view b)) c.in-Some.is)) c.in_err-dependent-in-Some.ensures.error)
 
@@ -31,9 +31,9 @@ returns-in_ok-push-in-Some-clause-ok c = λ bs tells.
     let q = path_dependency_view c.args.entry in
     let f = c.in_ok-dependent-in-Some.dependent in
     let was = c.args.dependents.now.items in
-    let told = c.in_ok-bump.ensures.ok
+    let numbered = c.in_ok-bump.ensures.ok
     ∙ ap (λ p. numbered_at c.args.numbers.now (resolve_folder file p)) c.as_str.ensures.value in
-    let is = numbered_by bs c.args.numbers.now file q (option_map numbered_view c.in_ok-bump.bump) tells told
+    let is = numbered_by bs c.args.numbers.now file q (option_map numbered_view c.in_ok-bump.bump) tells numbered
     ∙ ap (λ b. option_map (λ n. (n.0, record { place = q.place; text = q.text; next = n.1 }))
     (option_map numbered_view b)) c.in-Some.is in
     ap (map numbered_dependent_view) c.in_ok-push-in-Some.ensures.items ∙ map_push numbered_dependent_view was f
@@ -52,9 +52,9 @@ pub returns-in-None-clause-ok : goal.returns-in-None-clause-ok
 returns-in-None-clause-ok c = λ bs tells.
     let file = c.args.file.now in
     let q = path_dependency_view c.args.entry in
-    let told = c.in_ok-bump.ensures.ok
+    let numbered = c.in_ok-bump.ensures.ok
     ∙ ap (λ p. numbered_at c.args.numbers.now (resolve_folder file p)) c.as_str.ensures.value in
-    let is = numbered_by bs c.args.numbers.now file q (option_map numbered_view c.in_ok-bump.bump) tells told
+    let is = numbered_by bs c.args.numbers.now file q (option_map numbered_view c.in_ok-bump.bump) tells numbered
     ∙ ap (λ b. option_map (λ n. (n.0, record { place = q.place; text = q.text; next = n.1 }))
     (option_map numbered_view b)) c.in-None.is in
     sym (ap (λ o. map numbered_dependent_view c.args.dependents.now.items ++ option_to_list o) is

@@ -6,7 +6,7 @@ use Rattle.std.proofs.lemmas.Map.Text.{btree_map_updates_text}
 use Rattle.edit_set_version.specs.Folders.{folder_of, folder_at_path, same_folder}
 use Rattle.edit_set_version.specs.FolderTexts.{folder_text}
 use Rattle.edit_set_version.specs.BumpsByFolder.{numbered_view}
-use Rattle.edit_set_version.proofs.FolderSameness.{kept_first, names_above, put_first, same_by_text, same_folder_is}
+use Rattle.edit_set_version.proofs.FolderSameness.{first_option, names_above, put_first, same_by_text, same_folder_is}
 use Rattle.edit_set_version.proofs.ReachedFolders.{named}
 use Rattle.edit_set_version.proofs.numbers.add_bump.Goals as goal
 
@@ -19,7 +19,7 @@ returns-then-contains_key-clause-ok c = λ q.
     let own = folder_of c.args.path.now in
     let there = folder_at_path q in
     let text : c.as_str.result.now ≡ folder_text own = c.as_str.ensures.value ∙ c.in_ok-folder.ensures.ok in
-    kept_first (option_map numbered_view (get_by_text c.args.numbers.now (folder_text there)))
+    first_option (option_map numbered_view (get_by_text c.args.numbers.now (folder_text there)))
     (same_folder own there) (numbered_view c.args.bump)
     (λ same. is_some_map numbered_view (get_by_text c.args.numbers.now (folder_text there))
     ∙ ap (λ t. is_some (get_by_text c.args.numbers.now (folder_text t))) (sym (same_folder_is own there same))

@@ -11,7 +11,7 @@ use Rattle.edit_set_version.specs.Written.{shared_version_view}
 use Rattle.edit_set_version.proofs.EditsApart.{edits_distinct, edits_outside}
 use Rattle.edit_set_version.proofs.EditsStand.{literal_of, shown, document_view_of}
 use Rattle.edit_set_version.proofs.EditsValues.{values_shown}
-use Rattle.edit_set_version.proofs.NameLemmas.{told_none, told_some, unmapped}
+use Rattle.edit_set_version.proofs.NameLemmas.{found_empty, found_some, unmapped}
 use Rattle.edit_set_version.proofs.outputs.output_of.Goals as goal
 
 pub returns-then-is_empty-clause-output : goal.returns-then-is_empty-clause-output
@@ -20,7 +20,7 @@ returns-then-is_empty-clause-output c =
     let bs = bumps_view w.bumps.now in
     let path = path_of c.args.input.now in
     let none : c.in_ok-edits.edits.items ≡ []
-    = told_none c.in_ok-edits.edits.items c.in_ok-edits.edits.len c.is_empty.result c.if-is_empty.true
+    = found_empty c.in_ok-edits.edits.items c.in_ok-edits.edits.len c.is_empty.result c.if-is_empty.true
     c.is_empty.ensures (sym c.in_ok-edits.edits.ok.0) in
     record {
       form = c.requires.read.form;
@@ -68,7 +68,7 @@ returns-clause-output c =
     let same = c.in_ok-edits.ensures.ok ∙ ap (edits_by w.root.now (shared_version_view w.shared) bs path)
     (shown c.args.input.now c.args.manifest.now c.requires.read) in
     let some : c.in_ok-edits.edits.items ≢ []
-    = told_some c.in_ok-edits.edits.items c.in_ok-edits.edits.len c.is_empty.result c.if-is_empty.false
+    = found_some c.in_ok-edits.edits.items c.in_ok-edits.edits.len c.is_empty.result c.if-is_empty.false
     c.is_empty.ensures (sym c.in_ok-edits.edits.ok.0) in
     let text : Replaces (edit_views c.deref.result.now) c.args.input.now.bytes.items
     (string_bytes c.in_ok-text.text)

@@ -27,7 +27,7 @@ use Rattle.edit_set_version.specs.declared.plan.SetVersionPlan.{SetVersionPlan}
 use Rattle.edit_set_version.proofs.ApartBumps.{bumps_apart}
 use Rattle.edit_set_version.proofs.InputManifests.{inputs_among}
 use Rattle.edit_set_version.proofs.InputPaths.{inputs_apart}
-use Rattle.edit_set_version.proofs.PlanLemmas.{all_admitted, all_chosen, clear_given, lines_for, names_told, outputs_given, tells_shared, where_all, where_err}
+use Rattle.edit_set_version.proofs.PlanLemmas.{all_admitted, all_chosen, clear_given, lines_for, member_names_are, outputs_given, tells_shared, where_all, where_err}
 use Rattle.edit_set_version.proofs.planned.plan_set_version.Goals as goal
 
 pub returns-in_err-manifests-clause-error : goal.returns-in_err-manifests-clause-error
@@ -87,7 +87,7 @@ returns-clause-planned c =
     (λ (plan : SetVersionPlan). plan.changed ≡ has_lines plan)
     (All (IsInputClearBy bs) is)
     (λ (plan : SetVersionPlan). HasProject w is (IsPlan t a is plan))
-    (λ plan set in_order told changed clear.
+    (λ plan set in_order lines_are changed clear.
     let outputs = outputs_given t a is p n bs plan.outputs.items made.next made.bumps set in
     let each = clear_given t a is p bs made.bumps clear in
     record {
@@ -96,11 +96,11 @@ returns-clause-planned c =
       holds = record {
         outputs = outputs;
         in_order = in_order;
-        lines = told ∙ lines_for p m (workspace_current a p) n (workspace_next t a p) bs (bumps t a p)
+        lines = lines_are ∙ lines_for p m (workspace_current a p) n (workspace_next t a p) bs (bumps t a p)
             made.current made.next made.bumps;
         changed = changed;
         clear = record {
-          packages = ap (missing a) (names_told is (members w.packages) p.members project.members)
+          packages = ap (missing a) (member_names_are is (members w.packages) p.members project.members)
               ∙ c.in_ok-check_names.ensures.found;
           excluded = made.excluded;
           versions = made.bumpable;

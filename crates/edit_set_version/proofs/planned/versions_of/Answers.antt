@@ -58,11 +58,11 @@ returns-in_err-bumps-clause-error c =
     (workspace_current a p) seen c.in_ok-next.ensures.bumpable in
     let r = err_from_is_err_and c.from_residual-in_err-bumps.result
     c.from_residual-in_err-bumps.ensures.1 in
-    let kept : excluded_inheriting a p.members ≡ []
+    let none_excluded : excluded_inheriting a p.members ≡ []
     = ap (λ cs. excluded_inheriting a (members_of cs)) (sym c.deref.ensures.value) ∙ c.in_ok-choice.ensures.excluded in
     rw (r.1, r.2) (elim c.in_err-bumps.ensures.error [
       | inl none ↦ inl none
-      | inr why ↦ inr (version kept (unbumped_chosen t a p e shared
+      | inr why ↦ inr (version none_excluded (unbumped_chosen t a p e shared
           (subst (λ (ms : List Member). AreUnbumped t a (map (λ (m : Member). m.version) ms) e) these why)))
     ])
 

@@ -2,7 +2,7 @@ use Rattle.std.proofs.Common.{◌∙◌, ap}
 use Rattle.std.proofs.lemmas.Result.{err_from_is_err_and}
 use Rattle.edit_set_version.specs.Crates.{bumps_view, project_view}
 use Rattle.edit_set_version.specs.PlanLines.{manifests}
-use Rattle.edit_set_version.specs.ToldLines.{with_manifests}
+use Rattle.edit_set_version.specs.LineViews.{with_manifests}
 use Rattle.edit_set_version.proofs.walk.lists_of.Goals as goal
 
 pub returns-in_err-push_project-clause-error : goal.returns-in_err-push_project-clause-error

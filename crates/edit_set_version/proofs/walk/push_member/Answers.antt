@@ -8,7 +8,7 @@ use Rattle.edit_tree.specs.Assertions.{same_bytes}
 use Rattle.edit_set_version.specs.Crates.{member_of}
 use Rattle.edit_set_version.specs.PlanCauses.{AllRiseIn, AreUnraised, IsUnraised}
 use Rattle.edit_set_version.specs.PlanLines.{Named}
-use Rattle.edit_set_version.specs.ToldLines.{line_lists_view, named_member, with_manifests}
+use Rattle.edit_set_version.specs.LineViews.{line_lists_view, named_member, with_manifests}
 use Rattle.edit_base.proofs.FirstCauseLemmas.{first_here}
 use Rattle.edit_set_version.proofs.ManifestLines.{no_manifests, one_named, other_one, other_same}
 use Rattle.edit_set_version.proofs.walk.push_member.Goals as goal

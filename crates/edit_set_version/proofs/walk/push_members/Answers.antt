@@ -5,7 +5,7 @@ use Rattle.std.proofs.lemmas.List.Elements.{All-append, All-nil}
 use Rattle.std.proofs.lemmas.Result.{err_from_is_err_and}
 use Rattle.edit_set_version.specs.Crates.{member_of, members_of}
 use Rattle.edit_set_version.specs.PlanCauses.{AllRiseIn}
-use Rattle.edit_set_version.specs.ToldLines.{line_lists_view, other_manifests, with_manifests}
+use Rattle.edit_set_version.specs.LineViews.{line_lists_view, other_manifests, with_manifests}
 use Rattle.edit_set_version.proofs.ManifestLines.{manifests_in_parts, no_manifests, others_more, unraised_among}
 use Rattle.edit_set_version.proofs.walk.push_members.Goals as goal
 

@@ -4,7 +4,7 @@ use Rattle.edit_set_version.specs.Crates.{members_of}
 use Rattle.edit_set_version.specs.BumpsByFolder.{HasFirstBumps}
 use Rattle.edit_set_version.specs.PlanCauses.{AllRiseIn}
 use Rattle.edit_set_version.specs.SetVersioned.{Bump}
-use Rattle.edit_set_version.specs.ToldLines.{line_lists_view, other_manifests, with_manifests}
+use Rattle.edit_set_version.specs.LineViews.{line_lists_view, other_manifests, with_manifests}
 use Rattle.edit_set_version.proofs.walk.push_members.Given as goal
 
 abbrev pub invariant-members : goal.invariant-members

@@ -5,7 +5,7 @@ use Rattle.std.proofs.lemmas.Result.{err_from_is_err_and}
 use Rattle.edit_set_version.specs.Crates.{members_of}
 use Rattle.edit_set_version.specs.PlanCauses.{AllRiseIn, AreUnraised, IsUnraised}
 use Rattle.edit_set_version.specs.PlanLines.{Named}
-use Rattle.edit_set_version.specs.ToldLines.{line_lists_view, other_manifests, with_manifests}
+use Rattle.edit_set_version.specs.LineViews.{line_lists_view, other_manifests, with_manifests}
 use Rattle.edit_set_version.specs.declared.crates.Crate.{Crate}
 use Rattle.edit_set_version.specs.declared.project.ProjectRead.{ProjectRead}
 use Rattle.edit_tree.specs.DocumentViews.{tree_of}

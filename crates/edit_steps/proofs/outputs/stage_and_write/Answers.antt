@@ -1,22 +1,22 @@
 -- Nothing is written before all outputs are staged, flushed and verified.
 use Rattle.std.proofs.Common.{◌∙◌}
-use Rattle.edit_report.proofs.ApplyLemmas.{on_refusal, on_refusal_more, stopped_early, stopped_since}
+use Rattle.edit_report.proofs.ApplyLemmas.{on_failure, on_failure_more, stopped_early, stopped_since}
 use Rattle.edit_steps.proofs.outputs.stage_and_write.Goals as goal
 
 pub returns-in_err-make_ready-clause-stopped : goal.returns-in_err-make_ready-clause-stopped
 returns-in_err-make_ready-clause-stopped g c =
-    on_refusal _ _ (stopped_early c.args.outputs.now _ _ c.in_err-make_ready.ensures.some
+    on_failure _ _ (stopped_early c.args.outputs.now _ _ c.in_err-make_ready.ensures.some
     c.make_ready.ensures.writes c.make_ready.ensures.files)
 
 pub returns-in_err-verify_all-clause-stopped : goal.returns-in_err-verify_all-clause-stopped
 returns-in_err-verify_all-clause-stopped g c =
-    on_refusal _ _ (stopped_early c.args.outputs.now _ _ c.in_err-verify_all.ensures.some
+    on_failure _ _ (stopped_early c.args.outputs.now _ _ c.in_err-verify_all.ensures.some
     (c.verify_all.ensures.writes ∙ c.make_ready.ensures.writes)
     (λ path. c.verify_all.ensures.files path ∙ c.make_ready.ensures.files path))
 
 pub returns-clause-stopped : goal.returns-clause-stopped
 returns-clause-stopped g c =
-    on_refusal_more c.write_all.result _ _ (stopped_since c.args.outputs.now _ _ _
+    on_failure_more c.write_all.result _ _ (stopped_since c.args.outputs.now _ _ _
     (c.verify_all.ensures.tells ∙ c.make_ready.ensures.tells)
     (c.verify_all.ensures.writes ∙ c.make_ready.ensures.writes)
     (λ path. c.verify_all.ensures.files path ∙ c.make_ready.ensures.files path))

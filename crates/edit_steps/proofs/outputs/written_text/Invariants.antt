@@ -7,4 +7,4 @@ abbrev pub invariant-loop-output : goal.invariant-loop-output
 invariant-loop-output l =
     (goal.iterator-loop-output).can_next l.output-iterator ×
     (goal.iterator-loop-output).is_finite l.output-iterator ×
-    shadow (Utf8 l.mark)
+    shadow (Utf8 l.separator)

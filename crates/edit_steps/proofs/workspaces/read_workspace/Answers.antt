@@ -1,7 +1,7 @@
 use Rattle.std.specs.Prelude.{option_map}
 use Rattle.edit_metadata.specs.Workspaces.{workspace_view}
 use Rattle.edit_version.specs.RustVersions.{numbers_of}
-use Rattle.edit_steps.proofs.ErrorFields.{refusal_has}
+use Rattle.edit_steps.proofs.ErrorFields.{failure_has}
 use Rattle.edit_steps.proofs.WorkspaceLemmas.{is_read, manifest_before, metadata_cause, own_paths}
 use Rattle.edit_base.specs.declared.errors.DeviceCall.TheVariants as call
 use Rattle.edit_steps.proofs.ErrorLemmas.{inputs_error, only_before, only_on, wider}
@@ -27,7 +27,7 @@ returns-clause-paths g c =
 
 pub returns-in_err-workspace-clause-error : goal.returns-in_err-workspace-clause-error
 returns-in_err-workspace-clause-error g c =
-    refusal_has c.from_residual.result c.in_err-workspace.field-0.0 _ c.from_residual.ensures.1
+    failure_has c.from_residual.result c.in_err-workspace.field-0.0 _ c.from_residual.ensures.1
     (metadata_cause (g.S.Store.view c.args.files.now) (g.S.Store.view c.read_metadata.new.files)
     c.args.current.now c.args.named.now
     c.in_err-workspace.field-0.0.error c.in_err-workspace.ensures.error)
@@ -44,7 +44,7 @@ returns-in-Err-clause-error g c =
 pub returns-in_err-workspace-clause-only : goal.returns-in_err-workspace-clause-only
 returns-in_err-workspace-clause-only g c =
     let e = c.in_err-workspace.field-0.0.error in
-    refusal_has c.from_residual.result c.in_err-workspace.field-0.0 _ c.from_residual.ensures.1
+    failure_has c.from_residual.result c.in_err-workspace.field-0.0 _ c.from_residual.ensures.1
     (wider (IsCallError call.Read (g.S.Store.view c.args.files.now)
     (g.S.Store.view c.read_metadata.new.files) e) (IsMetadataError e) (IsWorkspaceError e)
     (λ unsaid. inl unsaid) c.in_err-workspace.ensures.only)

@@ -1,6 +1,6 @@
 use Rattle.std.proofs.Common.{◌≡◌, sym, ◌∙◌}
 use Rattle.edit_syntax.specs.declared.read.syntax_tokens.ReadError.TheVariants.{Memory, NotToml}
-use Rattle.edit_syntax.specs.Reading.{is_marked}
+use Rattle.edit_syntax.specs.Reading.{begins_with_byte_order_mark}
 use Rattle.edit_syntax.proofs.TextLaws.{lines_found, lines_only}
 use Rattle.edit_syntax.proofs.read.tokenize.Goals as goal
 
@@ -8,7 +8,7 @@ pub returns-in-Ok-clause-found : goal.returns-in-Ok-clause-found
 returns-in-Ok-clause-found c =
     let f = c.in-Ok.ensures.found in
     let h = lines_found 80 c.args.text.now f.0 (sym c.skip_byte_order_mark-body.ensures ∙ f.1) f.2 f.3 in
-    (record { marked = is_marked c.args.text.now; lines = f.0 }, h.spells, h.shallow, f.4)
+    (record { has_byte_order_mark = begins_with_byte_order_mark c.args.text.now; lines = f.0 }, h.spells, h.shallow, f.4)
 
 pub returns-in-Ok-clause-only : goal.returns-in-Ok-clause-only
 returns-in-Ok-clause-only c form has le =

@@ -8,7 +8,7 @@ use Rattle.edit_tree.proofs.assertions.follow_fronts.Given as goal
 -- the parts that are left lead on from the table
 abbrev pub invariant-fronts : goal.invariant-fronts
 invariant-fronts l =
-    (spots : List ModelNode) → RepresentsNodes l.text l.fn.nodes.items spots
+    (models : List ModelNode) → RepresentsNodes l.text l.fn.nodes.items models
     → Reaches l.text l.nodes.items
-    (fronts_followed spots l.fn.number (map (bytes_of l.text) l.fronts) (front_shape l.is_inline) l.taken) l.table
+    (fronts_followed models l.fn.number (map (bytes_of l.text) l.fronts) (front_shape l.is_inline) l.taken) l.table
     (map (bytes_of l.text) (drop l.front-index l.fronts)) (front_shape l.is_inline) l.taken

@@ -1,6 +1,6 @@
 use Rattle.std.proofs.Common.{ℕ, ap₂, sym, ◌∙◌, true≢false, arith}
 use Rattle.edit_syntax.specs.Spans.{cut_from}
-use Rattle.edit_syntax.proofs.Kept.{cut_is, cut_none}
+use Rattle.edit_syntax.proofs.DecodedSpans.{cut_is, cut_none}
 use Rattle.edit_tree.proofs.cut.between.Goals as goal
 use Rattle.edit_tree.proofs.cut.between.Goals.{else-start-end-via-then-start-end+then-is_char_boundary+else-is_char_boundary-2, else-start-end-via-then-start-end+else-is_char_boundary, else-start-end-via-else-start-end}
 

@@ -1,5 +1,5 @@
 use Rattle.edit_syntax.specs.Spans.{bytes_at}
-use Rattle.edit_syntax.proofs.Kept.{unequal}
+use Rattle.edit_syntax.proofs.DecodedSpans.{unequal}
 use Rattle.edit_tree.proofs.nodes.is_span_text.Goals as goal
 
 pub returns-then-not-may_have : goal.returns-then-not-may_have

@@ -1,6 +1,6 @@
 use Rattle.std.proofs.Common.{◌≡◌, ℕ, ◌<◌, length, ap₂, ◌∙◌, eq-eqb, arith}
 use Rattle.edit_syntax.specs.Spans.{cut_from, bytes_at}
-use Rattle.edit_syntax.proofs.Kept.{cut_length}
+use Rattle.edit_syntax.proofs.DecodedSpans.{cut_length}
 use Rattle.edit_tree.proofs.nodes.may_have.Goals as goal
 
 pub returns : goal.returns

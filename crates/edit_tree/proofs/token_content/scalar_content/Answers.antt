@@ -9,29 +9,29 @@ use Rattle.edit_tree.proofs.token_content.scalar_content.Goals as goal
 pub returns-in_ok-decode_token-in_default-clause-shows : goal.returns-in_ok-decode_token-in_default-clause-shows
 returns-in_ok-decode_token-in_default-clause-shows c name says =
     ap (λ (b : List ℕ). scalar (string b)) ((c.in_ok-decode_token-in_default.ensures {u = tt}).says name says) ∙
-    string_shape c.args.mark.kind name c.in_default.not-Integer c.in_default.not-Float
+    string_shape c.args.token.kind name c.in_default.not-Integer c.in_default.not-Float
     c.in_default.not-DateTime
 
 pub returns-in-Integer-clause-shows : goal.returns-in-Integer-clause-shows
 returns-in-Integer-clause-shows c name (before, content, rest, spelled, from, to, says) =
     let seen = c.content_span.ensures c.args.text.now before content rest name c.utf8.text spelled from to
     says in
-    let word : HasPlainValue content name = subst (λ (k : TokenKind). HasDecodedValue k content name) c.in-Integer.is says in
-    ap (λ (b : List ℕ). scalar (whole b)) (seen ∙ sym word.2) ∙
+    let token_text : HasPlainValue content name = subst (λ (k : TokenKind). HasDecodedValue k content name) c.in-Integer.is says in
+    ap (λ (b : List ℕ). scalar (whole b)) (seen ∙ sym token_text.2) ∙
     ap (λ (k : TokenKind). scalar_shape k name) (sym c.in-Integer.is)
 
 pub returns-in-Float-clause-shows : goal.returns-in-Float-clause-shows
 returns-in-Float-clause-shows c name (before, content, rest, spelled, from, to, says) =
     let seen = c.content_span-in-Float.ensures c.args.text.now before content rest name c.utf8.text spelled
     from to says in
-    let word : HasPlainValue content name = subst (λ (k : TokenKind). HasDecodedValue k content name) c.in-Float.is says in
-    ap (λ (b : List ℕ). scalar (fractional b)) (seen ∙ sym word.2) ∙
+    let token_text : HasPlainValue content name = subst (λ (k : TokenKind). HasDecodedValue k content name) c.in-Float.is says in
+    ap (λ (b : List ℕ). scalar (fractional b)) (seen ∙ sym token_text.2) ∙
     ap (λ (k : TokenKind). scalar_shape k name) (sym c.in-Float.is)
 
 pub returns-in-DateTime-clause-shows : goal.returns-in-DateTime-clause-shows
 returns-in-DateTime-clause-shows c name (before, content, rest, spelled, from, to, says) =
     let seen = c.content_span-in-DateTime.ensures c.args.text.now before content rest name c.utf8.text spelled
     from to says in
-    let word : HasPlainValue content name = subst (λ (k : TokenKind). HasDecodedValue k content name) c.in-DateTime.is says in
-    ap (λ (b : List ℕ). scalar (moment b)) (seen ∙ sym word.2) ∙
+    let token_text : HasPlainValue content name = subst (λ (k : TokenKind). HasDecodedValue k content name) c.in-DateTime.is says in
+    ap (λ (b : List ℕ). scalar (moment b)) (seen ∙ sym token_text.2) ∙
     ap (λ (k : TokenKind). scalar_shape k name) (sym c.in-DateTime.is)

@@ -5,6 +5,6 @@ use Rattle.edit_tree.proofs.WalkEnds.{Along}
 use Rattle.edit_tree.proofs.walk.nodes_of.Given as goal
 
 -- the walk is in the state behind the marks so far
-abbrev pub invariant-marks : goal.invariant-marks
-invariant-marks l = AllByRecursion (IsToken l.text) l.marks
-    → Along l.walk l.text l.marks (drop l.mark-index l.marks)
+abbrev pub invariant-tokens : goal.invariant-tokens
+invariant-tokens l = AllByRecursion (IsToken l.text) l.tokens
+    → Along l.walk l.text l.tokens (drop l.token-index l.tokens)

@@ -3,7 +3,7 @@ use Rattle.edit_tree.specs.Assertions.{at, index}
 use Rattle.edit_document.specs.ItemViews.{Finds, document_of, place_of}
 use Rattle.edit_document.specs.Items.{place_view}
 use Rattle.edit_tree.specs.DocumentViews.{tree_of}
-use Rattle.edit_update.proofs.StaleElements.{told_goes, told_stays}
+use Rattle.edit_update.proofs.StaleElements.{stale_goes, stale_stays}
 use Rattle.edit_update.proofs.features.push_stale.Goals as goal
 
 pub elements-preserved : goal.elements-preserved
@@ -20,7 +20,7 @@ elements-preserved c =
     subst (λ e. Finds e (at array (index m)) c.at.result) doc
     (subst (λ q. Finds (document_of c.in-Some-as_array.elements) (at q (index m)) c.at.result) place
     c.at.ensures) in
-    told_stays (tree_of d) c.args.gone.is_held c.args.gone.name.now array c.elements.left m
+    stale_stays (tree_of d) c.args.gone.is_held c.args.gone.name.now array c.elements.left m
     c.elements.places.items _ more
     (sym (c.is_stale_item.ensures d (at array (index m)) found) ∙ c.if-is_stale_item.false) c.elements.invariant
 
@@ -38,7 +38,7 @@ elements-preserved-in-Continue-branch-2 c =
     subst (λ e. Finds e (at array (index m)) c.at.result) doc
     (subst (λ q. Finds (document_of c.in-Some-as_array.elements) (at q (index m)) c.at.result) place
     c.at.ensures) in
-    told_goes (tree_of d) c.args.gone.is_held c.args.gone.name.now array c.elements.left m
+    stale_goes (tree_of d) c.args.gone.is_held c.args.gone.name.now array c.elements.left m
     c.elements.places.items
     c.push.new.self.items c.in_ok-place.place _ more
     (sym (c.is_stale_item.ensures d (at array (index m)) found) ∙ c.if-is_stale_item.true) c.in_ok-push.ensures.items

@@ -23,9 +23,9 @@ joined-old : (done : List (List ℕ)) (text : List ℕ) → is_old done text ≡
 joined-old done text old = rw old refl
 
 -- the texts that are taken after one iteration
-kept : (c : goal.Joined-added) → texts_view c.if-added.once ≡ joins (texts_view c.texts.once)
+joined_once : (c : goal.Joined-added) → texts_view c.if-added.once ≡ joins (texts_view c.texts.once)
     c.as_str.result.now
-kept c =
+joined_once c =
     let done = texts_view c.texts.once in
     let text = c.as_str.result.now in
     elim c.if-added.branch [
@@ -50,11 +50,11 @@ texts-preserved c =
     = map_more string_bytes c.args.texts.now c.texts.text-index c.text-item.result c.texts-test.true
     ∙ ap (λ t. old ++ string_bytes t ∷ []) (sym c.text-item.is)
     ∙ ap (λ t. old ++ t ∷ []) (sym c.as_str.ensures.value) in (
-      kept c ∙ ap (λ d. joins d text) c.texts.invariant.0 ∙ sym (join_more [] old text)
+      joined_once c ∙ ap (λ d. joins d text) c.texts.invariant.0 ∙ sym (join_more [] old text)
           ∙ ap (join_all []) (sym more),
       λ u. holds_joined text c.texts.seen c.insert.new.self (texts_view c.texts.once)
           c.in_ok-added.ensures.updates c.texts.invariant.1 u
-          ∙ ap (λ d. is_old d u) (sym (kept c)),
+          ∙ ap (λ d. is_old d u) (sym (joined_once c)),
     )
 
 pub returns : goal.returns

@@ -9,7 +9,7 @@ use Rattle.edit_tree.specs.IntendedTrees.{Removed, RemoveFails}
 use Rattle.edit_tree.specs.DocumentViews.{tree_of}
 use Rattle.edit_update.specs.RemovedEntries.{IsEntryRemovalError}
 use Rattle.edit_manifest.specs.Tables.{place_of_keys}
-use Rattle.edit_update.proofs.RemovedTables.{entry_kept, found_stands, member_gone, table_kept, taken_out}
+use Rattle.edit_update.proofs.RemovedTables.{entry_fails, found_stands, member_gone, table_fails, taken_out}
 use Rattle.edit_update.proofs.remove.remove_table_entry.Goals as goal
 
 pub returns-in_err-remove-clause-error : goal.returns-in_err-remove-clause-error
@@ -28,7 +28,7 @@ returns-in_err-remove-clause-error c =
     let form = c.lemma_form.ensures.some in
     let same = c.in_ok-left.ensures.same in
     let why : IsEntryRemovalError path c.args.name.now old c.in_err-remove.field-0.0 =
-    entry_kept path c.args.name.now old form.0 r p table entry form.1
+    entry_fails path c.args.name.now old form.0 r p table entry form.1
     (c.lemma_form.ensures.shows form.0 form.1) c.in_err-remove.field-0.0
     (sym c.in_default.ensures) stands
     (subst (λ d. IsMemory c.in_err-remove.field-0.0 ⊎ ((c.in_err-remove.field-0.0 ≡ EditRefused)
@@ -60,7 +60,7 @@ returns-in_err-remove_empty_table-clause-error c =
     let removed = subst (λ d. Removed form.0 p (tree_of d) (tree_of c.remove.new.self)) same
     (c.in_ok-remove.ensures.tree form.0 reads) in
     let why : IsEntryRemovalError path c.args.name.now old c.in_err-remove_empty_table.field-0.0 =
-    table_kept path c.args.name.now old form.0 r p table entry form.1
+    table_fails path c.args.name.now old form.0 r p table entry form.1
     (c.lemma_form.ensures.shows form.0 form.1) c.remove.new.self again.0
     c.in_err-remove_empty_table.field-0.0
     (sym c.in_default.ensures) stands (c.in_ok-remove.ensures.bytes form.0 reads) again.1

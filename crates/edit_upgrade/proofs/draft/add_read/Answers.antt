@@ -3,10 +3,10 @@ use Rattle.std.specs.Prelude.{IfSome, IsSome, IsUtf8, is_some, option_copied}
 use Rattle.edit_manifest.specs.Loaded.{IsBadManifest}
 use Rattle.edit_tree.specs.DocumentViews.{DocumentViews}
 use Rattle.edit_cache.specs.IndexCache.{index_of}
-use Rattle.edit_upgrade.specs.Looks.{cached_by}
+use Rattle.edit_upgrade.specs.Lookups.{cached_by}
 use Rattle.edit_upgrade.specs.Upgraded.{IsNeededBy}
 use Rattle.edit_upgrade.proofs.LookUpLemmas.{leaves-same}
-use Rattle.edit_upgrade.proofs.PlannedLemmas.{refusal-has}
+use Rattle.edit_upgrade.proofs.PlannedLemmas.{failure-has}
 use Rattle.edit_upgrade.proofs.draft.add_read.Goals as goal
 
 not-none : {A P : Type 0} (o : Option (Bor A)) (x : Bor A) → o ≡ Some x → option_copied o ≡ None → P
@@ -17,31 +17,31 @@ not-some {A} o is some = cc (ap (λ (p : Option (Bor A)). is_some (option_copied
 
 pub returns-in_err-add_input-in-Some-clause-given : goal.returns-in_err-add_input-in-Some-clause-given
 returns-in_err-add_input-in-Some-clause-given g c =
-    refusal-has c.from_residual.result c.in_err-add_input-in-Some.field-0.0 _ c.from_residual.ensures.1
+    failure-has c.from_residual.result c.in_err-add_input-in-Some.field-0.0 _ c.from_residual.ensures.1
     (λ some. c.in_err-add_input-in-Some.ensures.error)
 
 pub returns-in_err-add_input-in-Some-clause-read : goal.returns-in_err-add_input-in-Some-clause-read
 returns-in_err-add_input-in-Some-clause-read g c =
-    refusal-has c.from_residual.result c.in_err-add_input-in-Some.field-0.0 _ c.from_residual.ensures.1
+    failure-has c.from_residual.result c.in_err-add_input-in-Some.field-0.0 _ c.from_residual.ensures.1
     (λ none. not-none c.args.document c.in-Some.document c.in-Some.is none)
 
 pub returns-in_err-manifest-in-None-clause-given : goal.returns-in_err-manifest-in-None-clause-given
 returns-in_err-manifest-in-None-clause-given g c =
-    refusal-has c.from_residual-in_err-manifest-in-None.result c.in_err-manifest-in-None.field-0.0 _
+    failure-has c.from_residual-in_err-manifest-in-None.result c.in_err-manifest-in-None.field-0.0 _
     c.from_residual-in_err-manifest-in-None.ensures.1
     (λ some. not-some c.args.document c.in-None.is some)
 
 pub returns-in_err-manifest-in-None-clause-read : goal.returns-in_err-manifest-in-None-clause-read
 returns-in_err-manifest-in-None-clause-read g c =
     let e = c.in_err-manifest-in-None.field-0.0 in
-    refusal-has c.from_residual-in_err-manifest-in-None.result e _
+    failure-has c.from_residual-in_err-manifest-in-None.result e _
     c.from_residual-in_err-manifest-in-None.ensures.1
     (λ none. inl (subst (λ (bytes : List ℕ). IsBadManifest bytes e) c.deref.ensures.value
     c.in_err-manifest-in-None.ensures.error))
 
 pub returns-in_err-add_input-in-None-clause-given : goal.returns-in_err-add_input-in-None-clause-given
 returns-in_err-add_input-in-None-clause-given g c =
-    refusal-has c.from_residual-in_err-add_input-in-None.result c.in_err-add_input-in-None.field-0.0 _
+    failure-has c.from_residual-in_err-add_input-in-None.result c.in_err-add_input-in-None.field-0.0 _
     c.from_residual-in_err-add_input-in-None.ensures.1
     (λ some. not-some c.args.document c.in-None.is some)
 
@@ -50,7 +50,7 @@ returns-in_err-add_input-in-None-clause-read g c =
     let e = c.in_err-add_input-in-None.field-0.0 in
     let utf8 = subst (λ (bytes : List ℕ). IsUtf8 bytes) c.deref.ensures.value
     c.in_ok-manifest-in-None.ensures.utf8 in
-    refusal-has c.from_residual-in_err-add_input-in-None.result e _
+    failure-has c.from_residual-in_err-add_input-in-None.result e _
     c.from_residual-in_err-add_input-in-None.ensures.1
     (λ none. elim c.in_err-add_input-in-None.ensures.error [
       | inl memory ↦ inl (inr (inr (memory, utf8)))

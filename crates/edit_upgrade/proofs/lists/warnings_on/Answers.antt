@@ -13,7 +13,7 @@ use Rattle.edit_upgrade.proofs.lists.warnings_on.Goals.{in-Some+in_ok-push-in-So
 
 pub entries-init : goal.entries-init
 entries-init c =
-    warned-none c.args.asked.options.now c.args.input (map warning_view c.new-warnings.result.items)
+    warned-none c.args.parsed.options.now c.args.input (map warning_view c.new-warnings.result.items)
     (ap (map warning_view) c.new-warnings.ensures.items)
 
 pub entries-preserved : goal.entries-preserved
@@ -22,9 +22,9 @@ entries-preserved c =
     let more = names-more entry_view c.args.entries.now c.entries.entry-index c.entry-item.result
     c.entries-test.true c.entry-item.is in
     let old = map warning_view c.entries.warnings.items in
-    let told = option_map warning_view c.in_ok-told.told in
-    let new : map warning_view c.match-told.warnings.items ≡ old ++ cons_option told [] =
-    elim c.match-told.branch [
+    let found = option_map warning_view c.in_ok-found.found in
+    let new : map warning_view c.match-found.warnings.items ≡ old ++ cons_option found [] =
+    elim c.match-found.branch [
       | in-Some+in_ok-push-in-Some w ↦
           ap (λ v. map warning_view v.items) w.warnings-is
           ∙ ap (map warning_view) w.in_ok-push-in-Some.ensures.items
@@ -34,8 +34,8 @@ entries-preserved c =
           ap (λ v. map warning_view v.items) w.warnings-is ∙ sym (append-nil old)
           ∙ sym (ap (λ (o : Option Warning). old ++ cons_option (option_map warning_view o) []) w.in-None.is)
     ] in
-    subst (λ (es : List Entry). AreWarnings c.args.asked.options.now c.args.input es
-    (map warning_view c.match-told.warnings.items)) (sym more)
-    (warned-more c.args.asked.options.now c.args.input front old
-    (map warning_view c.match-told.warnings.items) (entry_view c.entry-item.result) told
-    c.entries.invariant c.in_ok-told.ensures.ok new)
+    subst (λ (es : List Entry). AreWarnings c.args.parsed.options.now c.args.input es
+    (map warning_view c.match-found.warnings.items)) (sym more)
+    (warned-more c.args.parsed.options.now c.args.input front old
+    (map warning_view c.match-found.warnings.items) (entry_view c.entry-item.result) found
+    c.entries.invariant c.in_ok-found.ensures.ok new)

@@ -5,5 +5,5 @@ use Rattle.edit_upgrade.proofs.lists.warnings_on.Given as goal
 
 abbrev pub invariant-entries : goal.invariant-entries
 invariant-entries l =
-    AreWarnings l.asked.options.now l.input (map entry_view (take l.entry-index l.entries))
+    AreWarnings l.parsed.options.now l.input (map entry_view (take l.entry-index l.entries))
     (map warning_view l.warnings.items)

@@ -10,10 +10,10 @@ returns-clause-step g c = record {
       ∙ ap (λ (x : List ℕ). if bytes_eq x a
       && bytes_eq c.args.name.now n then true else holds_pair c.args.pairs.now a n) c.as_str.ensures.value;
   done = inr (
-    c.in_ok-look.look,
+    c.in_ok-lookup.lookup,
     ap (λ (x : List ℕ). holds_pair c.args.pairs.now x c.args.name.now) (sym c.as_str.ensures.value)
         ∙ sym c.in_ok-had.ensures.had ∙ c.if-had.false,
     c.in_ok-push.ensures.items,
-    c.in_ok-look.ensures.look,
+    c.in_ok-lookup.ensures.lookup,
   );
 }

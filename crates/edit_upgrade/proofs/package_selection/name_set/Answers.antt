@@ -6,7 +6,7 @@ use Rattle.std.specs.Str.{bytes_eq}
 use Rattle.std.specs.declared.alloc.Global.{Global}
 use Rattle.std.proofs.lemmas.List.{take_all}
 use Rattle.edit_upgrade.proofs.Steps.{names-more}
-use Rattle.edit_upgrade.proofs.WordLemmas.{set-more}
+use Rattle.edit_upgrade.proofs.PackageArgLemmas.{set-more}
 use Rattle.edit_upgrade.proofs.package_selection.name_set.Goals as goal
 
 pub names-preserved : goal.names-preserved

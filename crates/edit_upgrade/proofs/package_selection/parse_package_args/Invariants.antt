@@ -3,5 +3,5 @@ use Rattle.std.specs.Prelude.{string_bytes}
 use Rattle.edit_upgrade.specs.PackageSelection.{ArePackageArgs}
 use Rattle.edit_upgrade.proofs.package_selection.parse_package_args.Given as goal
 
-abbrev pub invariant-words : goal.invariant-words
-invariant-words l = ArePackageArgs (map string_bytes (take l.word-index l.words)) l.read
+abbrev pub invariant-each_arg : goal.invariant-each_arg
+invariant-each_arg l = ArePackageArgs (map string_bytes (take l.arg-index l.args)) l.read

@@ -10,7 +10,7 @@ use Rattle.edit_cache.specs.IndexCache.{index_of}
 use Rattle.edit_sources.specs.declared.config.Config.{Config}
 use Rattle.edit_upgrade.specs.ConfigLists.{lists_in}
 use Rattle.edit_upgrade.specs.Drafts.{IsDraft}
-use Rattle.edit_upgrade.specs.Looks.{cached_by}
+use Rattle.edit_upgrade.specs.Lookups.{cached_by}
 use Rattle.edit_upgrade.specs.Missing.{AreKnown}
 use Rattle.edit_upgrade.specs.Caches.{cache_view}
 use Rattle.edit_upgrade.specs.Upgraded.{IsNeeded}
@@ -20,17 +20,17 @@ use Rattle.edit_upgrade.proofs.EndLemmas.{get-past}
 use Rattle.edit_upgrade.proofs.FurtherInputs.{draft-next, draft-start, given-at, left-next}
 use Rattle.edit_upgrade.proofs.LookUpLemmas.{leaves-same}
 use Rattle.edit_upgrade.proofs.MissingLemmas.{known-next, known-start}
-use Rattle.edit_upgrade.proofs.PlannedLemmas.{refusal-has}
+use Rattle.edit_upgrade.proofs.PlannedLemmas.{failure-has}
 use Rattle.edit_upgrade.proofs.Steps.{taken-more}
 use Rattle.edit_upgrade.proofs.plan.plan_each_input.Goals as goal
 
 pub inputs-init : goal.inputs-init
 inputs-init g c = record {
-  draft = draft-start c.args.asked.options.now (g.I.Index.view (index_of c.args.index.now)).gives
+  draft = draft-start c.args.parsed.options.now (g.I.Index.view (index_of c.args.index.now)).gives
       (cached_by c.args.index.now) c.new-draft.result
       c.new-draft.ensures.looks c.new-draft.ensures.pairs c.new-draft.ensures.outputs
       c.new-draft.ensures.rows c.new-draft.ensures.warnings;
-  known = known-start c.args.asked.options.now (contains_text c.new-draft.result.known)
+  known = known-start c.args.parsed.options.now (contains_text c.new-draft.result.known)
       c.new-draft.ensures.known;
   utf8 = λ e. All-nil (λ (x : Input). IsUtf8 x.bytes.items);
   caches = none-cached c.args.configs.lists.now c.new-caches.result c.new-caches.ensures.empty;
@@ -48,7 +48,7 @@ add_read-requires g c = record {
       c.list_index-list.result c.index-inputs-i.result c.take_addresses-addresses.result c.inputs-test.true
       c.requires.configurations c.index-inputs-i.is c.list_index-list.ensures.within
       c.list_index-list.ensures.list c.take_addresses-addresses.ensures.addresses;
-  preserved = c.inputs.invariant.draft.kept;
+  preserved = c.inputs.invariant.draft.cached;
 }
 
 pub keep_addresses-requires : goal.keep_addresses-requires
@@ -69,11 +69,11 @@ inputs-preserved g c =
     c.requires.configurations c.index-inputs-i.is c.list_index-list.ensures.within
     c.list_index-list.ensures.list c.take_addresses-addresses.ensures.addresses).1 in
     record {
-      draft = draft-next c.args.asked.options.now was now next c.inputs.draft c.add_read.new.draft at
+      draft = draft-next c.args.parsed.options.now was now next c.inputs.draft c.add_read.new.draft at
           c.requires.paths c.inputs.invariant.draft c.inputs.invariant.left.same
           c.in_ok-add_read.ensures.left.adds.stays c.in_ok-add_read.ensures.adds
           c.in_ok-add_read.ensures.preserved;
-      known = known-next c.args.asked.options.now c.args.inputs.now c.inputs.i c.index-inputs-i.result
+      known = known-next c.args.parsed.options.now c.args.inputs.now c.inputs.i c.index-inputs-i.result
           (contains_text c.inputs.draft.known) (contains_text c.add_read.new.draft.known) at.low at.is
           c.inputs.invariant.known c.in_ok-add_read.ensures.known;
       utf8 = λ e.
@@ -91,10 +91,10 @@ returns-clause-inputs g c =
     let whole = take_all c.inputs.i c.args.inputs.now (omega (arith, c.inputs-test.false)) in
     let whole_configs = take_all c.inputs.i (lists_in c.args.configs)
     (omega (arith, c.inputs-test.false, c.requires.configurations)) in
-    subst (λ (xs : List Input). IsDraft c.args.asked.options.now xs (lists_in c.args.configs)
+    subst (λ (xs : List Input). IsDraft c.args.parsed.options.now xs (lists_in c.args.configs)
     (g.I.Index.view (index_of c.args.index.now)).gives (cached_by c.args.index.now)
     (cached_by c.inputs.index) c.inputs.draft) whole
-    (subst (λ (cs : List (Vec Config)). IsDraft c.args.asked.options.now
+    (subst (λ (cs : List (Vec Config)). IsDraft c.args.parsed.options.now
     (take c.inputs.i c.args.inputs.now) cs
     (g.I.Index.view (index_of c.args.index.now)).gives (cached_by c.args.index.now)
     (cached_by c.inputs.index) c.inputs.draft)
@@ -102,7 +102,7 @@ returns-clause-inputs g c =
 
 pub returns-clause-known : goal.returns-clause-known
 returns-clause-known g c =
-    subst (λ (xs : List Input). AreKnown c.args.asked.options.now xs (contains_text c.inputs.draft.known))
+    subst (λ (xs : List Input). AreKnown c.args.parsed.options.now xs (contains_text c.inputs.draft.known))
     (take_all c.inputs.i c.args.inputs.now (omega (arith, c.inputs-test.false))) c.inputs.invariant.known
 
 pub returns-clause-utf8 : goal.returns-clause-utf8
@@ -130,7 +130,7 @@ returns-in_err-add_read-clause-given g c =
     c.list_index-list.result c.index-inputs-i.result c.take_addresses-addresses.result c.inputs-test.true
     c.requires.configurations c.index-inputs-i.is c.list_index-list.ensures.within
     c.list_index-list.ensures.list c.take_addresses-addresses.ensures.addresses).1 in
-    refusal-has c.from_residual.result c.in_err-add_read.field-0.0 _ c.from_residual.ensures.1
+    failure-has c.from_residual.result c.in_err-add_read.field-0.0 _ c.from_residual.ensures.1
     (λ long. given-refused was now next c.in_err-add_read.field-0.0 at c.inputs.invariant.draft.planned
     c.inputs.invariant.left c.in_err-add_read.ensures.left.adds.stays
     (c.in_err-add_read.ensures.given (get-past c.args.documents.now c.inputs.i _
@@ -145,7 +145,7 @@ returns-in_err-add_read-clause-read g c =
     c.list_index-list.result c.index-inputs-i.result c.take_addresses-addresses.result c.inputs-test.true
     c.requires.configurations c.index-inputs-i.is c.list_index-list.ensures.within
     c.list_index-list.ensures.list c.take_addresses-addresses.ensures.addresses).1 in
-    refusal-has c.from_residual.result c.in_err-add_read.field-0.0 _ c.from_residual.ensures.1
+    failure-has c.from_residual.result c.in_err-add_read.field-0.0 _ c.from_residual.ensures.1
     (λ e. read-refused was now next c.in_err-add_read.field-0.0 at c.inputs.invariant.draft.planned
     c.inputs.invariant.left c.in_err-add_read.ensures.left.adds.stays
     (c.in_err-add_read.ensures.read (c.document_at-document.ensures
@@ -171,7 +171,7 @@ returns-in_err-keep_addresses-clause-given g c =
     c.list_index-list.result c.index-inputs-i.result c.take_addresses-addresses.result c.inputs-test.true
     c.requires.configurations c.index-inputs-i.is c.list_index-list.ensures.within
     c.list_index-list.ensures.list c.take_addresses-addresses.ensures.addresses).1 in
-    refusal-has c.from_residual-in_err-keep_addresses.result c.in_err-keep_addresses.field-0.0 _
+    failure-has c.from_residual-in_err-keep_addresses.result c.in_err-keep_addresses.field-0.0 _
     c.from_residual-in_err-keep_addresses.ensures.1
     (λ long. given-refused was now next c.in_err-keep_addresses.field-0.0 at c.inputs.invariant.draft.planned
     c.inputs.invariant.left c.in_ok-add_read.ensures.left.adds.stays
@@ -186,7 +186,7 @@ returns-in_err-keep_addresses-clause-read g c =
     c.list_index-list.result c.index-inputs-i.result c.take_addresses-addresses.result c.inputs-test.true
     c.requires.configurations c.index-inputs-i.is c.list_index-list.ensures.within
     c.list_index-list.ensures.list c.take_addresses-addresses.ensures.addresses).1 in
-    refusal-has c.from_residual-in_err-keep_addresses.result c.in_err-keep_addresses.field-0.0 _
+    failure-has c.from_residual-in_err-keep_addresses.result c.in_err-keep_addresses.field-0.0 _
     c.from_residual-in_err-keep_addresses.ensures.1
     (λ e.
     let utf8 = c.in_ok-add_read.ensures.utf8 (c.document_at-document.ensures

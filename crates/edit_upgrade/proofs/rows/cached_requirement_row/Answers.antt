@@ -8,10 +8,10 @@ use Rattle.edit_cache.specs.declared.ranking.Ranked.{Ranked}
 use Rattle.url.specs.Parts.{serialize}
 use Rattle.edit_upgrade.specs.Found.{row_entry_view}
 use Rattle.edit_upgrade.specs.Lines.{line_of}
-use Rattle.edit_upgrade.specs.Looks.{Answer, cached_by, versions_in}
+use Rattle.edit_upgrade.specs.Lookups.{Answer, cached_by, versions_in}
 use Rattle.edit_upgrade.specs.Rankings.{IsRankingOf}
 use Rattle.edit_upgrade.specs.Rows.{IsDecided}
-use Rattle.edit_upgrade.proofs.RankedLemmas.{kept-same, ranking-kept}
+use Rattle.edit_upgrade.proofs.RankedLemmas.{cached-same, ranking-cached}
 use Rattle.edit_upgrade.proofs.rows.cached_requirement_row.Goals as goal
 
 pub returns-clause-ok : goal.returns-clause-ok
@@ -20,13 +20,13 @@ returns-clause-ok g c =
     let address = serialize c.args.registry.now in
     let name = c.as_str-name.result.now in
     let input = c.args.job.number in
-    let options = c.args.job.asked.options.now in
+    let options = c.args.job.parsed.options.now in
     let rust = option_map numbers_of c.args.job.input.now.rust_version in
     let e = row_entry_view c.args.entry.now in
     let answer : Option Answer = cached_by index address name in
     let ranking : IsRankingOf answer (option_copied c.cached_ranking-ranked.result) =
     subst (λ (r : Option Ranked). IsRankingOf answer r) (sym c.cached_ranking-ranked.ensures)
-    (ranking-kept (cached_answer_at index address name)
+    (ranking-cached (cached_answer_at index address name)
     (ranking_at index address name) c.in_ok-rank_for.ensures.ranked) in
     let named = ap (λ (n : List ℕ). cached_by index address n) c.as_str-name.ensures.value in
     IfOk-weaker _ _ _ (λ r h.
@@ -37,8 +37,8 @@ returns-clause-ok g c =
     c.row_with.ensures.ok
 
 pub returns-clause-preserved : goal.returns-clause-preserved
-returns-clause-preserved g c = kept-same c.args.index.now c.rank_for.new.self c.in_ok-rank_for.ensures.preserved
+returns-clause-preserved g c = cached-same c.args.index.now c.rank_for.new.self c.in_ok-rank_for.ensures.preserved
 
 pub returns-in_err-rank_for-clause-preserved : goal.returns-in_err-rank_for-clause-preserved
 returns-in_err-rank_for-clause-preserved g c =
-    kept-same c.args.index.now c.rank_for.new.self c.in_err-rank_for.ensures.preserved
+    cached-same c.args.index.now c.rank_for.new.self c.in_err-rank_for.ensures.preserved

@@ -3,7 +3,7 @@ use Rattle.std.specs.Prelude.{option_map}
 use Rattle.edit_version.specs.RustVersions.{numbers_of}
 use Rattle.edit_upgrade.specs.Found.{row_entry_view, source_view}
 use Rattle.edit_upgrade.specs.Lines.{line_of}
-use Rattle.edit_upgrade.specs.Looks.{cached_by}
+use Rattle.edit_upgrade.specs.Lookups.{cached_by}
 use Rattle.edit_upgrade.specs.Rows.{is_elsewhere}
 use Rattle.edit_upgrade.specs.declared.entries_with_rows.Source.{Source}
 use Rattle.edit_upgrade.proofs.WalkLemmas.{elsewhere-decided}
@@ -11,7 +11,7 @@ use Rattle.edit_upgrade.proofs.walk.entry_row.Goals as goal
 
 pub returns-in_ok-row-in-Git-clause-row : goal.returns-in_ok-row-in-Git-clause-row
 returns-in_ok-row-in-Git-clause-row g c =
-    elsewhere-decided c.args.job.number c.args.job.asked.options.now
+    elsewhere-decided c.args.job.number c.args.job.parsed.options.now
     (option_map numbers_of c.args.job.input.now.rust_version) c.args.addresses.now.configs.now (cached_by c.args.index.now)
     (row_entry_view c.args.entry.now) (line_of c.in_ok-row-in-Git.row)
     (elim c.in-Git.is [

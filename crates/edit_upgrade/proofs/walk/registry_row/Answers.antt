@@ -6,17 +6,17 @@ use Rattle.edit_cache.specs.IndexCache.{index_of}
 use Rattle.url.specs.Parts.{serialize}
 use Rattle.edit_upgrade.specs.Found.{row_entry_view}
 use Rattle.edit_upgrade.specs.Lines.{line_of}
-use Rattle.edit_upgrade.specs.Looked.{IsStep, Leaves}
-use Rattle.edit_upgrade.specs.Looks.{CachedAnswers, cached_by}
+use Rattle.edit_upgrade.specs.LookupSteps.{IsStep, Leaves}
+use Rattle.edit_upgrade.specs.Lookups.{CachedAnswers, cached_by}
 use Rattle.edit_upgrade.specs.PairSets.{holds_pair}
 use Rattle.edit_upgrade.specs.Upgraded.{IsNeededFor}
-use Rattle.edit_upgrade.proofs.PlannedLemmas.{refusal-has}
-use Rattle.edit_upgrade.proofs.WalkLemmas.{no-look, no-registry, registry-decided, registry-left, registry-step}
+use Rattle.edit_upgrade.proofs.PlannedLemmas.{failure-has}
+use Rattle.edit_upgrade.proofs.WalkLemmas.{no-lookup, no-registry, registry-decided, registry-left, registry-step}
 use Rattle.edit_upgrade.proofs.walk.registry_row.Goals as goal
 
 pub returns-in_err-ensure_resolved-clause-error : goal.returns-in_err-ensure_resolved-clause-error
 returns-in_err-ensure_resolved-clause-error g c =
-    refusal-has c.from_residual.result c.in_err-ensure_resolved.field-0.0 _ c.from_residual.ensures.1
+    failure-has c.from_residual.result c.in_err-ensure_resolved.field-0.0 _ c.from_residual.ensures.1
     (no-registry c.args.addresses.now.configs.now (row_entry_view c.args.entry.now) (given c.args.registry)
     (g.I.Index.view (index_of c.args.index.now)).gives
     (cached_by c.args.index.now) (g.I.Index.view (index_of c.args.index.now)).faults
@@ -39,9 +39,9 @@ returns-in_err-lookup_once-clause-left g c =
 
 pub returns-in_err-lookup_once-clause-error : goal.returns-in_err-lookup_once-clause-error
 returns-in_err-lookup_once-clause-error g c =
-    refusal-has c.from_residual-in_err-lookup_once.result c.in_err-lookup_once.field-0.0 _
+    failure-has c.from_residual-in_err-lookup_once.result c.in_err-lookup_once.field-0.0 _
     c.from_residual-in_err-lookup_once.ensures.1
-    (no-look c.args.addresses.now.configs.now (row_entry_view c.args.entry.now)
+    (no-lookup c.args.addresses.now.configs.now (row_entry_view c.args.entry.now)
     (given c.args.registry) c.in-Some.url.now c.as_str-name.result.now
     (g.I.Index.view (index_of c.args.index.now)).gives (cached_by c.args.index.now)
     (g.I.Index.view (index_of c.args.index.now)).faults
@@ -82,19 +82,19 @@ returns-clause-step g c =
     let first = (g.I.Index.view (index_of c.args.index.now)).gives in
     let old = cached_by c.args.index.now in
     registry-step c.args.addresses.now.configs.now e (given c.args.registry) address name first old
-    (cached_by c.cached_row.new.index) c.args.books.now.looks.items c.lookup_once.new.looks.items
+    (cached_by c.cached_row.new.index) c.args.books.now.looks.items c.lookup_once.new.lookups.items
     (holds_pair c.args.books.now.pairs) (holds_pair c.lookup_once.new.pairs) c.requires.source
     ((c.in_ok-ensure_resolved.ensures.are c.args.addresses.now.configs.now c.requires.addresses).has
     (given c.args.registry) address
     (sym c.url.ensures ∙ ap option_copied c.in-Some.is)) c.as_str-name.ensures.value
     (subst (λ (k : CachedAnswers). IsStep (serialize address) name first old k
-    c.args.books.now.looks.items c.lookup_once.new.looks.items
+    c.args.books.now.looks.items c.lookup_once.new.lookups.items
     (holds_pair c.args.books.now.pairs) (holds_pair c.lookup_once.new.pairs))
     (sym c.in_ok-row.ensures.preserved) c.in_ok-lookup_once.ensures.step)
 
 pub returns-clause-row : goal.returns-clause-row
 returns-clause-row g c =
-    registry-decided c.args.job.number c.args.job.asked.options.now
+    registry-decided c.args.job.number c.args.job.parsed.options.now
     (option_map numbers_of c.args.job.input.now.rust_version) c.args.addresses.now.configs.now (cached_by c.cached_row.new.index)
     (row_entry_view c.args.entry.now) (given c.args.registry) c.in-Some.url.now
     (line_of c.in_ok-row.row) c.requires.source

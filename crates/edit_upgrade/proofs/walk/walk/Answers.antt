@@ -13,36 +13,36 @@ use Rattle.edit_upgrade.specs.Addresses.{AreAddresses}
 use Rattle.edit_upgrade.specs.Found.{row_entry_view}
 use Rattle.edit_upgrade.specs.Lines.{line_of}
 use Rattle.edit_upgrade.specs.Causes.{IsPassed, StopsAt}
-use Rattle.edit_upgrade.specs.Looked.{AreSteps, IsEntryStep, Leaves, further, start}
-use Rattle.edit_upgrade.specs.Looks.{cached_basis, cached_by}
+use Rattle.edit_upgrade.specs.LookupSteps.{AreSteps, IsEntryStep, Leaves, further, start}
+use Rattle.edit_upgrade.specs.Lookups.{cached_basis, cached_by}
 use Rattle.edit_upgrade.specs.PairSets.{holds_pair}
 use Rattle.edit_upgrade.specs.Records.{RowEntry}
 use Rattle.edit_upgrade.specs.Rows.{AreDecided, IsRowBy, Line}
 use Rattle.edit_upgrade.specs.Upgraded.{IsNeededFor, IsNeededIn}
 use Rattle.edit_upgrade.proofs.AddressLemmas.{own-addresses}
 use Rattle.edit_upgrade.proofs.LookUpLemmas.{leaves-more, leaves-same}
-use Rattle.edit_upgrade.proofs.PlannedLemmas.{refusal-has}
+use Rattle.edit_upgrade.proofs.PlannedLemmas.{failure-has}
 use Rattle.edit_upgrade.proofs.Steps.{names-more, names-split}
-use Rattle.edit_upgrade.proofs.StepLemmas.{entry-kept, entry-step-with}
+use Rattle.edit_upgrade.proofs.StepLemmas.{entry-cached, entry-step-with}
 use Rattle.edit_upgrade.proofs.WalkLemmas.{contains-item, for-among, passed-stays, rows-further, walk-refused}
 use Rattle.edit_upgrade.proofs.walk.walk.Goals as goal
 
 pub entries-init : goal.entries-init
 entries-init g c =
     let configs = c.args.addresses.now.configs.now in
-    let kept = cached_by c.args.index.now in
+    let cached = cached_by c.args.index.now in
     let rust = option_map numbers_of c.args.job.input.now.rust_version in
     record {
       addresses = c.requires.addresses;
-      kept = c.requires.preserved;
-      steps = start kept c.args.books.now.looks.items (holds_pair c.args.books.now.pairs);
-      passed = All-nil (IsPassed configs kept);
-      rows = subst (λ (rows : List Row). AreDecided (cached_basis c.args.job.number c.args.job.asked.options.now
-          rust configs kept) [] (map line_of rows))
+      cached = c.requires.preserved;
+      steps = start cached c.args.books.now.looks.items (holds_pair c.args.books.now.pairs);
+      passed = All-nil (IsPassed configs cached);
+      rows = subst (λ (rows : List Row). AreDecided (cached_basis c.args.job.number c.args.job.parsed.options.now
+          rust configs cached) [] (map line_of rows))
           (sym c.in_ok-rows.ensures.items) tt;
       left = leaves-same (IsNeededIn configs (map row_entry_view c.args.entries.now))
           (g.I.Index.view (index_of c.args.index.now)).gives
-          (g.I.Index.view (index_of c.args.index.now)).faults kept;
+          (g.I.Index.view (index_of c.args.index.now)).faults cached;
     }
 
 pub entry_row-requires : goal.entry_row-requires
@@ -97,7 +97,7 @@ returns-in_err-push-clause-left g c =
 
 pub returns-in_err-row-clause-error : goal.returns-in_err-row-clause-error
 returns-in_err-row-clause-error g c =
-    refusal-has c.from_residual-in_err-row.result c.in_err-row.field-0.0 _
+    failure-has c.from_residual-in_err-row.result c.in_err-row.field-0.0 _
     c.from_residual-in_err-row.ensures.1
     (walk-refused c.args.addresses.now.configs.now (g.I.Index.view (index_of c.args.index.now)).gives
     (g.I.Index.view (index_of c.entries.index)).gives
@@ -135,36 +135,36 @@ entries-preserved g c =
     let now = cached_by c.entries.index in
     let next = cached_by c.entry_row.new.index in
     let before = c.args.books.now.looks.items in
-    let looks = c.entries.books.looks.items in
-    let then_looks = c.entry_row.new.books.looks.items in
+    let lookups = c.entries.books.looks.items in
+    let then_lookups = c.entry_row.new.books.looks.items in
     let first_pairs = holds_pair c.args.books.now.pairs in
     let pairs = holds_pair c.entries.books.pairs in
     let then_pairs = holds_pair c.entry_row.new.books.pairs in
     let under = c.entries.invariant.addresses.own in
-    let step = subst (λ (cs : List Config). IsEntryStep cs e last now next looks then_looks pairs then_pairs)
+    let step = subst (λ (cs : List Config). IsEntryStep cs e last now next lookups then_lookups pairs then_pairs)
     under c.in_ok-row.ensures.step in
-    let same = entry-step-with configs e first last now next looks then_looks pairs then_pairs
+    let same = entry-step-with configs e first last now next lookups then_lookups pairs then_pairs
     c.entries.invariant.left.same step in
-    let kept = entry-kept configs e last now next looks then_looks pairs then_pairs
-    c.entries.invariant.kept step in
+    let cached = entry-cached configs e last now next lookups then_lookups pairs then_pairs
+    c.entries.invariant.cached step in
     let stays = c.in_ok-row.ensures.left.adds.stays in
-    let rows = rows-further c.args.job.number c.args.job.asked.options.now rust configs now next front
+    let rows = rows-further c.args.job.number c.args.job.parsed.options.now rust configs now next front
     (map line_of c.entries.rows.items) e
     (line_of c.in_ok-row.row) c.entries.invariant.passed stays c.entries.invariant.rows
-    (subst (λ (cs : List Config). IsRowBy (cached_basis c.args.job.number c.args.job.asked.options.now rust cs
+    (subst (λ (cs : List Config). IsRowBy (cached_basis c.args.job.number c.args.job.parsed.options.now rust cs
     next) e (line_of c.in_ok-row.row)) under c.in_ok-row.ensures.row) in
-    let basis = cached_basis c.args.job.number c.args.job.asked.options.now rust configs next in
+    let basis = cached_basis c.args.job.number c.args.job.parsed.options.now rust configs next in
     record {
       addresses = subst (λ (cs : List Config). AreAddresses cs c.entry_row.new.addresses) under
           c.in_ok-row.ensures.addresses;
-      kept = kept.0;
-      steps = subst (λ (es : List RowEntry). AreSteps configs first es old next before then_looks first_pairs
+      cached = cached.0;
+      steps = subst (λ (es : List RowEntry). AreSteps configs first es old next before then_lookups first_pairs
           then_pairs) (sym more)
-          (further front e old now next before looks then_looks first_pairs pairs then_pairs
+          (further front e old now next before lookups then_lookups first_pairs pairs then_pairs
           c.entries.invariant.steps same);
       passed = subst (λ (es : List RowEntry). All (IsPassed configs next) es) (sym more)
           (All-push (IsPassed configs next) front e (passed-stays configs now next front stays
-          c.entries.invariant.passed) kept.1);
+          c.entries.invariant.passed) cached.1);
       rows = subst (λ (es : List RowEntry). AreDecided basis es (map line_of c.push.new.self.items)) (sym more)
           (subst (λ (ls : List Line). AreDecided basis (front ++ e ∷ []) ls) (sym lines) rows);
       left = leaves-more (IsNeededIn configs all) (IsNeededFor configs e) first last
@@ -196,7 +196,7 @@ pub returns-clause-rows : goal.returns-clause-rows
 returns-clause-rows g c =
     let whole = take_all c.entries.entry-index c.args.entries.now (omega (arith, c.entries-test.false)) in
     subst (λ (es : List Entry). AreDecided
-    (cached_basis c.args.job.number c.args.job.asked.options.now
+    (cached_basis c.args.job.number c.args.job.parsed.options.now
     (option_map numbers_of c.args.job.input.now.rust_version) c.args.addresses.now.configs.now (cached_by c.entries.index))
     (map row_entry_view es) (map line_of c.entries.rows.items)) whole c.entries.invariant.rows
 

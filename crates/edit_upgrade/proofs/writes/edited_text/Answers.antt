@@ -55,11 +55,11 @@ returns-clause-ok c =
     let strings = shown-strings d c.requires.shown.0 (map row_entry_view c.args.entries.now)
     (map line_of c.args.rows.now) ws c.requires.shown.1 c.requires.shown.2 same in
     let f = c.lemma_form.ensures.some in
-    let told = c.in_ok-text.ensures {u = tt} in
+    let tells = c.in_ok-text.ensures {u = tt} in
     let whole : IsRewritten d ws (string_bytes c.in_ok-text.text) = record {
       some = some;
-      replaced = told.replaces;
-      read_back = λ form manifest place. told.tree form manifest place
+      replaced = tells.replaces;
+      read_back = λ form manifest place. tells.tree form manifest place
           ∙ written_same ws (tree_without_below ws (tree_of d)) (tree_of d) place
           (shown_emptied ws d f.0 f.1 (c.lemma_form.ensures.shows f.0 f.1) strings place);
     } in

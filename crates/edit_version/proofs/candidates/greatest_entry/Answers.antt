@@ -15,9 +15,9 @@ entries-preserved c =
     advanced-more (λ (t : IndexVersion). entry_of t)
     (is_qualifying (option_map numbers_of c.args.rust_version)
     (is_selectable c.args.allow_prerelease (option_map comparators_of (option_copied c.args.req))))
-    entry_order entry_total c.args.versions.now c.entries.told-index c.told-item.result
-    (option_map (λ f. entry_of f.told.now) c.entries.best)
-    (option_map (λ f. entry_of f.told.now) c.in_ok-best.best) c.entries-test.true c.told-item.is
+    entry_order entry_total c.args.versions.now c.entries.index_entry-index c.index_entry-item.result
+    (option_map (λ f. entry_of f.index_entry.now) c.entries.best)
+    (option_map (λ f. entry_of f.index_entry.now) c.in_ok-best.best) c.entries-test.true c.index_entry-item.is
     c.entries.invariant c.in_ok-best.ensures.ok
 
 pub returns-in-None-clause-ok : goal.returns-in-None-clause-ok
@@ -25,9 +25,9 @@ returns-in-None-clause-ok c =
     let whole = advanced-all (λ (t : IndexVersion). entry_of t)
     (is_qualifying (option_map numbers_of c.args.rust_version)
     (is_selectable c.args.allow_prerelease (option_map comparators_of (option_copied c.args.req))))
-    entry_order c.args.versions.now c.entries.told-index
-    (option_map (λ f. entry_of f.told.now) c.entries.best) c.entries-test.false c.entries.invariant in
-    let none = ap (λ o. option_map (λ f. entry_of f.told.now) o) c.in-None.is in
+    entry_order c.args.versions.now c.entries.index_entry-index
+    (option_map (λ f. entry_of f.index_entry.now) c.entries.best) c.entries-test.false c.entries.invariant in
+    let none = ap (λ o. option_map (λ f. entry_of f.index_entry.now) o) c.in-None.is in
     subst (λ (o : Option IndexEntry). IsGreatest
     (is_qualifying (option_map numbers_of c.args.rust_version)
     (is_selectable c.args.allow_prerelease (option_map comparators_of (option_copied c.args.req))))

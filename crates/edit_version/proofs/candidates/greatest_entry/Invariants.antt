@@ -11,4 +11,4 @@ abbrev pub invariant-entries : goal.invariant-entries
 invariant-entries l =
     IsGreatest (is_qualifying (option_map numbers_of l.rust_version)
     (is_selectable l.allow_prerelease (option_map comparators_of (option_copied l.req))))
-    entry_order (map entry_of (take l.told-index l.versions)) (option_map (λ f. entry_of f.told.now) l.best)
+    entry_order (map entry_of (take l.index_entry-index l.versions)) (option_map (λ f. entry_of f.index_entry.now) l.best)

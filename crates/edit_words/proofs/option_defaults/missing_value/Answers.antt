@@ -10,14 +10,14 @@ use Rattle.edit_words.proofs.option_defaults.missing_value.Goals as goal
 pub returns-then-has_value : goal.returns-then-has_value
 returns-then-has_value c =
     let next : Option Text = option_map (λ (w : Bor (Bor (List ℕ))). w.now.now) c.args.next in
-    none_missing (values_behind c.args.word.now) next
+    none_missing (values_behind c.args.arg.now) next
     (ap (λ vs. option_map_or (is_one vs) next false) (sym c.values_behind-values.ensures)
     ∙ sym c.has_value.ensures ∙ c.if-has_value.true)
 
 pub returns-else-has_value : goal.returns-else-has_value
 returns-else-has_value c =
     let next : Option Text = option_map (λ (w : Bor (Bor (List ℕ))). w.now.now) c.args.next in
-    first_missing (values_behind c.args.word.now) next _
+    first_missing (values_behind c.args.arg.now) next _
     (ap (λ vs. option_map_or (is_one vs) next false) (sym c.values_behind-values.ensures)
     ∙ sym c.has_value.ensures ∙ c.if-has_value.false)
     (ap (option_map (λ (v : Bor (List ℕ)). v.now)) c.copied.ensures

@@ -1,9 +1,9 @@
-use Rattle.edit_words.proofs.WordLemmas.{next_word, no_word}
+use Rattle.edit_words.proofs.ArgSpecLemmas.{next_arg, no_arg_left}
 use Rattle.edit_words.proofs.rules.with_args.Goals as goal
 
-pub loop-word-preserved : goal.loop-word-preserved
-loop-word-preserved c = λ app h. next_word _ _ _ _ _ _ _ c.in_ok-command-2.ensures
-    c.to_clap_arg.ensures.rule c.to_clap_arg.ensures.local c.loop-word-test.true (c.loop-word.invariant app h)
+pub loop-arg_spec-preserved : goal.loop-arg_spec-preserved
+loop-arg_spec-preserved c = λ app h. next_arg _ _ _ _ _ _ _ c.in_ok-command-2.ensures
+    c.to_clap_arg.ensures.rule c.to_clap_arg.ensures.local c.loop-arg_spec-test.true (c.loop-arg_spec.invariant app h)
 
 pub returns : goal.returns
-returns c = λ app h. no_word _ _ _ _ c.loop-word-test.false (c.loop-word.invariant app h)
+returns c = λ app h. no_arg_left _ _ _ _ c.loop-arg_spec-test.false (c.loop-arg_spec.invariant app h)

@@ -21,10 +21,10 @@ returns-in_ok-dependency_of-in-Some-clause-found c = λ entries g.
     ap (λ o. option_map rank_of o) (sym c.in-Some.ensures) in
     let rank = rank_of c.in-Some.rank.now in
     let first = greatest_first entries (map rank_of ranks) rust test rank g found in
-    let told = first.0.entry in
-    let text : parts_text rank.version ≡ told.version = version-text told.version rank.version
+    let first_entry = first.0.entry in
+    let text : parts_text rank.version ≡ first_entry.version = version-text first_entry.version rank.version
     (tells-version entries rank first.0) in
-    (told, first.1, rw (first.0.named, ← text) c.in_ok-dependency_of-in-Some.ensures.ok)
+    (first_entry, first.1, rw (first.0.named, ← text) c.in_ok-dependency_of-in-Some.ensures.ok)
 
 pub returns-in-None-clause-found : goal.returns-in-None-clause-found
 returns-in-None-clause-found c = λ entries g.

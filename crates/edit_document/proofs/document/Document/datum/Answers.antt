@@ -16,9 +16,9 @@ returns-in-Text c =
     let f = found c.args.self.now c.self.inside.nodes.items c.args.number c.index-node.result.now
     (opened c.self.inside c.args.self.now c.self.invariant c.self.view_is) c.requires c.index-node.ensures in
     shows c.args.self.now c.self.inside.nodes.items
-    (opened c.self.inside c.args.self.now c.self.invariant c.self.view_is).spots c.args.number
-    c.index-node.result.now (content.Text c.in-Text.words) (seen.Text c.decoded_str.result) f c.in-Text.is
-    (c.decoded_str.ensures ∙ ap (λ (b : List ℕ). bytes_of b c.in-Text.words)
+    (opened c.self.inside c.args.self.now c.self.invariant c.self.view_is).models c.args.number
+    c.index-node.result.now (content.Text c.in-Text.decoded) (seen.Text c.decoded_str.result) f c.in-Text.is
+    (c.decoded_str.ensures ∙ ap (λ (b : List ℕ). bytes_of b c.in-Text.decoded)
     (c.as_str.ensures.value ∙ shown_bytes c.self.inside c.args.self.now c.self.view_is))
 
 pub returns-in-Truth : goal.returns-in-Truth
@@ -26,7 +26,7 @@ returns-in-Truth c =
     let f = found c.args.self.now c.self.inside.nodes.items c.args.number c.index-node.result.now
     (opened c.self.inside c.args.self.now c.self.invariant c.self.view_is) c.requires c.index-node.ensures in
     shows c.args.self.now c.self.inside.nodes.items
-    (opened c.self.inside c.args.self.now c.self.invariant c.self.view_is).spots c.args.number
+    (opened c.self.inside c.args.self.now c.self.invariant c.self.view_is).models c.args.number
     c.index-node.result.now (content.Truth c.in-Truth.truth)
     (seen.Truth c.in-Truth.truth) f c.in-Truth.is refl
 
@@ -35,7 +35,7 @@ returns-in-Inline c =
     let f = found c.args.self.now c.self.inside.nodes.items c.args.number c.index-node.result.now
     (opened c.self.inside c.args.self.now c.self.invariant c.self.view_is) c.requires c.index-node.ensures in
     shows c.args.self.now c.self.inside.nodes.items
-    (opened c.self.inside c.args.self.now c.self.invariant c.self.view_is).spots c.args.number
+    (opened c.self.inside c.args.self.now c.self.invariant c.self.view_is).models c.args.number
     c.index-node.result.now content.Inline seen.Inline f c.in-Inline.is tt
 
 pub returns-in-Table : goal.returns-in-Table
@@ -43,7 +43,7 @@ returns-in-Table c =
     let f = found c.args.self.now c.self.inside.nodes.items c.args.number c.index-node.result.now
     (opened c.self.inside c.args.self.now c.self.invariant c.self.view_is) c.requires c.index-node.ensures in
     shows c.args.self.now c.self.inside.nodes.items
-    (opened c.self.inside c.args.self.now c.self.invariant c.self.view_is).spots c.args.number
+    (opened c.self.inside c.args.self.now c.self.invariant c.self.view_is).models c.args.number
     c.index-node.result.now content.Table seen.Table f c.in-Table.is tt
 
 pub returns-in-Integer : goal.returns-in-Integer
@@ -51,7 +51,7 @@ returns-in-Integer c =
     let f = found c.args.self.now c.self.inside.nodes.items c.args.number c.index-node.result.now
     (opened c.self.inside c.args.self.now c.self.invariant c.self.view_is) c.requires c.index-node.ensures in
     shows c.args.self.now c.self.inside.nodes.items
-    (opened c.self.inside c.args.self.now c.self.invariant c.self.view_is).spots c.args.number
+    (opened c.self.inside c.args.self.now c.self.invariant c.self.view_is).models c.args.number
     c.index-node.result.now (content.Integer c.in-Integer.field-0) seen.Integer f c.in-Integer.is tt
 
 pub returns-in-Float : goal.returns-in-Float
@@ -59,7 +59,7 @@ returns-in-Float c =
     let f = found c.args.self.now c.self.inside.nodes.items c.args.number c.index-node.result.now
     (opened c.self.inside c.args.self.now c.self.invariant c.self.view_is) c.requires c.index-node.ensures in
     shows c.args.self.now c.self.inside.nodes.items
-    (opened c.self.inside c.args.self.now c.self.invariant c.self.view_is).spots c.args.number
+    (opened c.self.inside c.args.self.now c.self.invariant c.self.view_is).models c.args.number
     c.index-node.result.now (content.Float c.in-Float.field-0) seen.Float f c.in-Float.is tt
 
 pub returns-in-DateTime : goal.returns-in-DateTime
@@ -67,7 +67,7 @@ returns-in-DateTime c =
     let f = found c.args.self.now c.self.inside.nodes.items c.args.number c.index-node.result.now
     (opened c.self.inside c.args.self.now c.self.invariant c.self.view_is) c.requires c.index-node.ensures in
     shows c.args.self.now c.self.inside.nodes.items
-    (opened c.self.inside c.args.self.now c.self.invariant c.self.view_is).spots c.args.number
+    (opened c.self.inside c.args.self.now c.self.invariant c.self.view_is).models c.args.number
     c.index-node.result.now (content.DateTime c.in-DateTime.field-0) seen.DateTime f c.in-DateTime.is tt
 
 pub returns-in-Tables : goal.returns-in-Tables
@@ -75,7 +75,7 @@ returns-in-Tables c =
     let f = found c.args.self.now c.self.inside.nodes.items c.args.number c.index-node.result.now
     (opened c.self.inside c.args.self.now c.self.invariant c.self.view_is) c.requires c.index-node.ensures in
     shows c.args.self.now c.self.inside.nodes.items
-    (opened c.self.inside c.args.self.now c.self.invariant c.self.view_is).spots c.args.number
+    (opened c.self.inside c.args.self.now c.self.invariant c.self.view_is).models c.args.number
     c.index-node.result.now content.Tables seen.Tables f c.in-Tables.is tt
 
 pub returns-in-Array : goal.returns-in-Array
@@ -83,5 +83,5 @@ returns-in-Array c =
     let f = found c.args.self.now c.self.inside.nodes.items c.args.number c.index-node.result.now
     (opened c.self.inside c.args.self.now c.self.invariant c.self.view_is) c.requires c.index-node.ensures in
     shows c.args.self.now c.self.inside.nodes.items
-    (opened c.self.inside c.args.self.now c.self.invariant c.self.view_is).spots c.args.number
+    (opened c.self.inside c.args.self.now c.self.invariant c.self.view_is).models c.args.number
     c.index-node.result.now content.Array seen.Array f c.in-Array.is tt

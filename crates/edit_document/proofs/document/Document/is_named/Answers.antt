@@ -2,7 +2,7 @@ use Rattle.std.specs.Str.{IsUtf8}
 use Rattle.std.proofs.Common.{sym, ap, subst, ◌∙◌}
 use Rattle.edit_document.specs.ItemRemoval.{is_named}
 use Rattle.edit_tree.specs.Redefinition.{is_own}
-use Rattle.edit_document.proofs.KeptNodes.{taken_named}
+use Rattle.edit_document.proofs.RemainingNodes.{taken_named}
 use Rattle.edit_document.proofs.NodeAnswers.{stood}
 use Rattle.edit_document.proofs.Views.{opened, within, found}
 use Rattle.edit_document.proofs.document.Document.is_named.Goals as goal
@@ -22,5 +22,5 @@ returns c form manifest =
     let st = stood c.self.inside c.args.self.now c.self.invariant c.self.view_is
     (subst IsUtf8 c.as_str-text.ensures.value c.as_str-text.utf8) form manifest in
     c.is_own.ensures ∙ ap is_own f.keeps.taken
-    ∙ taken_named form opens.spots c.args.number f.spot st f.stands (λ e. c.requires.inner (f.place ∙ e))
+    ∙ taken_named form opens.models c.args.number f.model st f.stands (λ e. c.requires.inner (f.place ∙ e))
     ∙ ap (is_named form) (sym f.place)

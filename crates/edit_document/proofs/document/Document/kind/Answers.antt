@@ -16,7 +16,7 @@ returns-in-Text c =
     let node = c.index-node.result.now in
     let f = found c.args.self.now c.self.inside.nodes.items c.args.number node opens c.requires
     c.index-node.ensures in
-    kind_shown c.args.self.now c.self.inside.nodes.items opens.spots c.args.number node _ f c.in-Text.is
+    kind_shown c.args.self.now c.self.inside.nodes.items opens.models c.args.number node _ f c.in-Text.is
 
 pub returns-then-truth : goal.returns-then-truth
 returns-then-truth c =
@@ -25,7 +25,7 @@ returns-then-truth c =
     let f = found c.args.self.now c.self.inside.nodes.items c.args.number node opens c.requires
     c.index-node.ensures in
     ap (λ b. kind_of (truth b)) (sym c.if-truth.true) ∙
-    kind_shown c.args.self.now c.self.inside.nodes.items opens.spots c.args.number node _ f c.in-Truth.is
+    kind_shown c.args.self.now c.self.inside.nodes.items opens.models c.args.number node _ f c.in-Truth.is
 
 pub returns-else-truth : goal.returns-else-truth
 returns-else-truth c =
@@ -34,7 +34,7 @@ returns-else-truth c =
     let f = found c.args.self.now c.self.inside.nodes.items c.args.number node opens c.requires
     c.index-node.ensures in
     ap (λ b. kind_of (truth b)) (sym c.if-truth.false) ∙
-    kind_shown c.args.self.now c.self.inside.nodes.items opens.spots c.args.number node _ f c.in-Truth.is
+    kind_shown c.args.self.now c.self.inside.nodes.items opens.models c.args.number node _ f c.in-Truth.is
 
 pub returns-in-Integer : goal.returns-in-Integer
 returns-in-Integer c =
@@ -42,7 +42,7 @@ returns-in-Integer c =
     let node = c.index-node.result.now in
     let f = found c.args.self.now c.self.inside.nodes.items c.args.number node opens c.requires
     c.index-node.ensures in
-    kind_shown c.args.self.now c.self.inside.nodes.items opens.spots c.args.number node _ f c.in-Integer.is
+    kind_shown c.args.self.now c.self.inside.nodes.items opens.models c.args.number node _ f c.in-Integer.is
 
 pub returns-in-Float : goal.returns-in-Float
 returns-in-Float c =
@@ -50,7 +50,7 @@ returns-in-Float c =
     let node = c.index-node.result.now in
     let f = found c.args.self.now c.self.inside.nodes.items c.args.number node opens c.requires
     c.index-node.ensures in
-    kind_shown c.args.self.now c.self.inside.nodes.items opens.spots c.args.number node _ f c.in-Float.is
+    kind_shown c.args.self.now c.self.inside.nodes.items opens.models c.args.number node _ f c.in-Float.is
 
 pub returns-in-DateTime : goal.returns-in-DateTime
 returns-in-DateTime c =
@@ -58,7 +58,7 @@ returns-in-DateTime c =
     let node = c.index-node.result.now in
     let f = found c.args.self.now c.self.inside.nodes.items c.args.number node opens c.requires
     c.index-node.ensures in
-    kind_shown c.args.self.now c.self.inside.nodes.items opens.spots c.args.number node _ f c.in-DateTime.is
+    kind_shown c.args.self.now c.self.inside.nodes.items opens.models c.args.number node _ f c.in-DateTime.is
 
 pub returns-in-Array : goal.returns-in-Array
 returns-in-Array c =
@@ -66,7 +66,7 @@ returns-in-Array c =
     let node = c.index-node.result.now in
     let f = found c.args.self.now c.self.inside.nodes.items c.args.number node opens c.requires
     c.index-node.ensures in
-    kind_shown c.args.self.now c.self.inside.nodes.items opens.spots c.args.number node _ f c.in-Array.is
+    kind_shown c.args.self.now c.self.inside.nodes.items opens.models c.args.number node _ f c.in-Array.is
 
 pub returns-in-Tables : goal.returns-in-Tables
 returns-in-Tables c =
@@ -74,7 +74,7 @@ returns-in-Tables c =
     let node = c.index-node.result.now in
     let f = found c.args.self.now c.self.inside.nodes.items c.args.number node opens c.requires
     c.index-node.ensures in
-    kind_shown c.args.self.now c.self.inside.nodes.items opens.spots c.args.number node _ f c.in-Tables.is
+    kind_shown c.args.self.now c.self.inside.nodes.items opens.models c.args.number node _ f c.in-Tables.is
 
 pub returns-in-Inline : goal.returns-in-Inline
 returns-in-Inline c =
@@ -82,7 +82,7 @@ returns-in-Inline c =
     let node = c.index-node.result.now in
     let f = found c.args.self.now c.self.inside.nodes.items c.args.number node opens c.requires
     c.index-node.ensures in
-    kind_shown c.args.self.now c.self.inside.nodes.items opens.spots c.args.number node _ f c.in-Inline.is
+    kind_shown c.args.self.now c.self.inside.nodes.items opens.models c.args.number node _ f c.in-Inline.is
 
 pub returns-in-Table : goal.returns-in-Table
 returns-in-Table c =
@@ -90,4 +90,4 @@ returns-in-Table c =
     let node = c.index-node.result.now in
     let f = found c.args.self.now c.self.inside.nodes.items c.args.number node opens c.requires
     c.index-node.ensures in
-    kind_shown c.args.self.now c.self.inside.nodes.items opens.spots c.args.number node _ f c.in-Table.is
+    kind_shown c.args.self.now c.self.inside.nodes.items opens.models c.args.number node _ f c.in-Table.is

@@ -12,7 +12,7 @@ returns-in-Text c =
     let f = found c.args.self.now c.self.inside.nodes.items c.args.number c.index-node.result.now
     (opened c.self.inside c.args.self.now c.self.invariant c.self.view_is) c.requires c.index-node.ensures in
     sym (count_scalar c.args.self.now c.self.inside.nodes.items
-    (opened c.self.inside c.args.self.now c.self.invariant c.self.view_is).spots c.args.number
+    (opened c.self.inside c.args.self.now c.self.invariant c.self.view_is).models c.args.number
     c.index-node.result.now f c.in-Text.is)
 
 pub returns-in-Text-2 : goal.returns-in-Text-2
@@ -20,7 +20,7 @@ returns-in-Text-2 c =
     let f = found c.args.self.now c.self.inside.nodes.items c.args.number c.index-node.result.now
     (opened c.self.inside c.args.self.now c.self.invariant c.self.view_is) c.requires c.index-node.ensures in
     sym (count_scalar c.args.self.now c.self.inside.nodes.items
-    (opened c.self.inside c.args.self.now c.self.invariant c.self.view_is).spots c.args.number
+    (opened c.self.inside c.args.self.now c.self.invariant c.self.view_is).models c.args.number
     c.index-node.result.now f c.in-Text.is)
 
 pub returns-in-Text-3 : goal.returns-in-Text-3
@@ -28,7 +28,7 @@ returns-in-Text-3 c =
     let f = found c.args.self.now c.self.inside.nodes.items c.args.number c.index-node.result.now
     (opened c.self.inside c.args.self.now c.self.invariant c.self.view_is) c.requires c.index-node.ensures in
     sym (count_scalar c.args.self.now c.self.inside.nodes.items
-    (opened c.self.inside c.args.self.now c.self.invariant c.self.view_is).spots c.args.number
+    (opened c.self.inside c.args.self.now c.self.invariant c.self.view_is).models c.args.number
     c.index-node.result.now f c.in-Text.is)
 
 pub returns-in-Text-4 : goal.returns-in-Text-4
@@ -36,7 +36,7 @@ returns-in-Text-4 c =
     let f = found c.args.self.now c.self.inside.nodes.items c.args.number c.index-node.result.now
     (opened c.self.inside c.args.self.now c.self.invariant c.self.view_is) c.requires c.index-node.ensures in
     sym (count_scalar c.args.self.now c.self.inside.nodes.items
-    (opened c.self.inside c.args.self.now c.self.invariant c.self.view_is).spots c.args.number
+    (opened c.self.inside c.args.self.now c.self.invariant c.self.view_is).models c.args.number
     c.index-node.result.now f c.in-Text.is)
 
 pub returns-in-Text-5 : goal.returns-in-Text-5
@@ -44,7 +44,7 @@ returns-in-Text-5 c =
     let f = found c.args.self.now c.self.inside.nodes.items c.args.number c.index-node.result.now
     (opened c.self.inside c.args.self.now c.self.invariant c.self.view_is) c.requires c.index-node.ensures in
     sym (count_scalar c.args.self.now c.self.inside.nodes.items
-    (opened c.self.inside c.args.self.now c.self.invariant c.self.view_is).spots c.args.number
+    (opened c.self.inside c.args.self.now c.self.invariant c.self.view_is).models c.args.number
     c.index-node.result.now f c.in-Text.is)
 
 pub returns-in-Inline : goal.returns-in-Inline
@@ -53,7 +53,7 @@ returns-in-Inline c =
     (opened c.self.inside c.args.self.now c.self.invariant c.self.view_is) c.requires c.index-node.ensures in
     c.len.ensures c.args.self.now.bytes ∙
     sym (count_tabular c.args.self.now c.self.inside.nodes.items
-    (opened c.self.inside c.args.self.now c.self.invariant c.self.view_is).spots c.args.number
+    (opened c.self.inside c.args.self.now c.self.invariant c.self.view_is).models c.args.number
     c.index-node.result.now f c.in-Inline.is)
 
 pub returns-in-Array : goal.returns-in-Array
@@ -62,5 +62,5 @@ returns-in-Array c =
     (opened c.self.inside c.args.self.now c.self.invariant c.self.view_is) c.requires c.index-node.ensures in
     ap (λ (es : List ℕ). length es) c.elements.ensures ∙
     sym (count_elements c.args.self.now c.self.inside.nodes.items
-    (opened c.self.inside c.args.self.now c.self.invariant c.self.view_is).spots c.args.number
+    (opened c.self.inside c.args.self.now c.self.invariant c.self.view_is).models c.args.number
     c.index-node.result.now f c.in-Array.is)

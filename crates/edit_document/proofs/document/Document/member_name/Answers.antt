@@ -18,7 +18,7 @@ returns-in-Inline c =
     (names_in (entries_of b c.index-node.result.now.members)) c.args.index) here ∙
     sym (ap (λ (xs : List (List ℕ)). slice_get xs c.args.index)
     (names_tabular c.args.self.now c.self.inside.nodes.items
-    (opened c.self.inside c.args.self.now c.self.invariant c.self.view_is).spots c.args.number
+    (opened c.self.inside c.args.self.now c.self.invariant c.self.view_is).models c.args.number
     c.index-node.result.now f c.in-Inline.is))
 
 pub returns-in-Text : goal.returns-in-Text
@@ -27,5 +27,5 @@ returns-in-Text c =
     (opened c.self.inside c.args.self.now c.self.invariant c.self.view_is) c.requires c.index-node.ensures in
     sym (ap (λ (xs : List (List ℕ)). slice_get xs c.args.index)
     (names_none c.args.self.now c.self.inside.nodes.items
-    (opened c.self.inside c.args.self.now c.self.invariant c.self.view_is).spots c.args.number
+    (opened c.self.inside c.args.self.now c.self.invariant c.self.view_is).models c.args.number
     c.index-node.result.now f c.in-Text.is))

@@ -14,7 +14,7 @@ returns-in-Text c =
     let f = found c.args.self.now c.self.inside.nodes.items c.args.number c.index-node.result.now
     (opened c.self.inside c.args.self.now c.self.invariant c.self.view_is) c.requires c.index-node.ensures in
     sym (ap length (names_none c.args.self.now c.self.inside.nodes.items
-    (opened c.self.inside c.args.self.now c.self.invariant c.self.view_is).spots c.args.number
+    (opened c.self.inside c.args.self.now c.self.invariant c.self.view_is).models c.args.number
     c.index-node.result.now f c.in-Text.is))
 
 pub returns-in-Text-2 : goal.returns-in-Text-2
@@ -22,7 +22,7 @@ returns-in-Text-2 c =
     let f = found c.args.self.now c.self.inside.nodes.items c.args.number c.index-node.result.now
     (opened c.self.inside c.args.self.now c.self.invariant c.self.view_is) c.requires c.index-node.ensures in
     sym (ap length (names_none c.args.self.now c.self.inside.nodes.items
-    (opened c.self.inside c.args.self.now c.self.invariant c.self.view_is).spots c.args.number
+    (opened c.self.inside c.args.self.now c.self.invariant c.self.view_is).models c.args.number
     c.index-node.result.now f c.in-Text.is))
 
 pub returns-in-Text-3 : goal.returns-in-Text-3
@@ -30,7 +30,7 @@ returns-in-Text-3 c =
     let f = found c.args.self.now c.self.inside.nodes.items c.args.number c.index-node.result.now
     (opened c.self.inside c.args.self.now c.self.invariant c.self.view_is) c.requires c.index-node.ensures in
     sym (ap length (names_none c.args.self.now c.self.inside.nodes.items
-    (opened c.self.inside c.args.self.now c.self.invariant c.self.view_is).spots c.args.number
+    (opened c.self.inside c.args.self.now c.self.invariant c.self.view_is).models c.args.number
     c.index-node.result.now f c.in-Text.is))
 
 pub returns-in-Text-4 : goal.returns-in-Text-4
@@ -38,7 +38,7 @@ returns-in-Text-4 c =
     let f = found c.args.self.now c.self.inside.nodes.items c.args.number c.index-node.result.now
     (opened c.self.inside c.args.self.now c.self.invariant c.self.view_is) c.requires c.index-node.ensures in
     sym (ap length (names_none c.args.self.now c.self.inside.nodes.items
-    (opened c.self.inside c.args.self.now c.self.invariant c.self.view_is).spots c.args.number
+    (opened c.self.inside c.args.self.now c.self.invariant c.self.view_is).models c.args.number
     c.index-node.result.now f c.in-Text.is))
 
 pub returns-in-Text-5 : goal.returns-in-Text-5
@@ -46,7 +46,7 @@ returns-in-Text-5 c =
     let f = found c.args.self.now c.self.inside.nodes.items c.args.number c.index-node.result.now
     (opened c.self.inside c.args.self.now c.self.invariant c.self.view_is) c.requires c.index-node.ensures in
     sym (ap length (names_none c.args.self.now c.self.inside.nodes.items
-    (opened c.self.inside c.args.self.now c.self.invariant c.self.view_is).spots c.args.number
+    (opened c.self.inside c.args.self.now c.self.invariant c.self.view_is).models c.args.number
     c.index-node.result.now f c.in-Text.is))
 
 pub returns-in-Text-6 : goal.returns-in-Text-6
@@ -54,7 +54,7 @@ returns-in-Text-6 c =
     let f = found c.args.self.now c.self.inside.nodes.items c.args.number c.index-node.result.now
     (opened c.self.inside c.args.self.now c.self.invariant c.self.view_is) c.requires c.index-node.ensures in
     sym (ap length (names_none c.args.self.now c.self.inside.nodes.items
-    (opened c.self.inside c.args.self.now c.self.invariant c.self.view_is).spots c.args.number
+    (opened c.self.inside c.args.self.now c.self.invariant c.self.view_is).models c.args.number
     c.index-node.result.now f c.in-Text.is))
 
 pub returns-in-Text-7 : goal.returns-in-Text-7
@@ -62,7 +62,7 @@ returns-in-Text-7 c =
     let f = found c.args.self.now c.self.inside.nodes.items c.args.number c.index-node.result.now
     (opened c.self.inside c.args.self.now c.self.invariant c.self.view_is) c.requires c.index-node.ensures in
     sym (ap length (names_none c.args.self.now c.self.inside.nodes.items
-    (opened c.self.inside c.args.self.now c.self.invariant c.self.view_is).spots c.args.number
+    (opened c.self.inside c.args.self.now c.self.invariant c.self.view_is).models c.args.number
     c.index-node.result.now f c.in-Text.is))
 
 pub returns-in-Inline : goal.returns-in-Inline
@@ -71,6 +71,6 @@ returns-in-Inline c =
     (opened c.self.inside c.args.self.now c.self.invariant c.self.view_is) c.requires c.index-node.ensures in
     c.len.ensures c.args.self.now.bytes ∙
     sym (ap length (names_tabular c.args.self.now c.self.inside.nodes.items
-    (opened c.self.inside c.args.self.now c.self.invariant c.self.view_is).spots c.args.number
+    (opened c.self.inside c.args.self.now c.self.invariant c.self.view_is).models c.args.number
     c.index-node.result.now f c.in-Inline.is) ∙
     length-map (entries_of c.args.self.now.bytes c.index-node.result.now.members) (λ e. e.0))

@@ -1,7 +1,7 @@
 use Rattle.std.proofs.Common.{ℕ, List, Some, ap, ◌∙◌, inl, inr}
 use Rattle.edit_syntax.specs.Spans.{bytes_at}
 use Rattle.edit_tree.specs.Nodes.{bytes_of}
-use Rattle.edit_document.proofs.ContentViews.{word_shown}
+use Rattle.edit_document.proofs.ContentViews.{value_text_shown}
 use Rattle.edit_document.proofs.ShownForms.{shown_bytes}
 use Rattle.edit_document.proofs.Views.{opened, within, found}
 use Rattle.edit_document.proofs.document.Document.scalar_text.Goals as goal
@@ -18,8 +18,8 @@ returns-in-Text c =
     let f = found c.args.self.now c.self.inside.nodes.items c.args.number node opens c.requires
     c.index-node.ensures in
     let here = c.as_str.ensures.value ∙ shown_bytes c.self.inside c.args.self.now c.self.view_is in
-    ap Some (c.decoded_str.ensures ∙ ap (λ (b : List ℕ). bytes_of b c.in-Text.words) here)
-    ∙ word_shown c.args.self.now c.self.inside.nodes.items opens.spots c.args.number node _ f c.in-Text.is
+    ap Some (c.decoded_str.ensures ∙ ap (λ (b : List ℕ). bytes_of b c.in-Text.decoded) here)
+    ∙ value_text_shown c.args.self.now c.self.inside.nodes.items opens.models c.args.number node _ f c.in-Text.is
 
 pub returns-in-Integer : goal.returns-in-Integer
 returns-in-Integer c =
@@ -29,7 +29,7 @@ returns-in-Integer c =
     c.index-node.ensures in
     let here = c.as_str-in-Integer.ensures.value ∙ shown_bytes c.self.inside c.args.self.now c.self.view_is in
     ap Some (c.span_text.ensures ∙ ap (λ (b : List ℕ). bytes_at b c.in-Integer.span) here)
-    ∙ word_shown c.args.self.now c.self.inside.nodes.items opens.spots c.args.number node _ f c.in-Integer.is
+    ∙ value_text_shown c.args.self.now c.self.inside.nodes.items opens.models c.args.number node _ f c.in-Integer.is
 
 pub returns-in-Float : goal.returns-in-Float
 returns-in-Float c =
@@ -39,7 +39,7 @@ returns-in-Float c =
     c.index-node.ensures in
     let here = c.as_str-in-Float.ensures.value ∙ shown_bytes c.self.inside c.args.self.now c.self.view_is in
     ap Some (c.span_text-in-Float.ensures ∙ ap (λ (b : List ℕ). bytes_at b c.in-Float.span) here)
-    ∙ word_shown c.args.self.now c.self.inside.nodes.items opens.spots c.args.number node _ f c.in-Float.is
+    ∙ value_text_shown c.args.self.now c.self.inside.nodes.items opens.models c.args.number node _ f c.in-Float.is
 
 pub returns-in-DateTime : goal.returns-in-DateTime
 returns-in-DateTime c =
@@ -50,7 +50,7 @@ returns-in-DateTime c =
     let here = c.as_str-in-DateTime.ensures.value ∙
     shown_bytes c.self.inside c.args.self.now c.self.view_is in
     ap Some (c.span_text-in-DateTime.ensures ∙ ap (λ (b : List ℕ). bytes_at b c.in-DateTime.span) here)
-    ∙ word_shown c.args.self.now c.self.inside.nodes.items opens.spots c.args.number node _ f c.in-DateTime.is
+    ∙ value_text_shown c.args.self.now c.self.inside.nodes.items opens.models c.args.number node _ f c.in-DateTime.is
 
 pub returns-in-Truth : goal.returns-in-Truth
 returns-in-Truth c =
@@ -59,13 +59,13 @@ returns-in-Truth c =
     let f = found c.args.self.now c.self.inside.nodes.items c.args.number node opens c.requires
     c.index-node.ensures in
     elim c.in-Truth.is [
-      | inl e ↦ word_shown c.args.self.now c.self.inside.nodes.items opens.spots c.args.number node _ f e.1
-      | inr (inl e) ↦ word_shown c.args.self.now c.self.inside.nodes.items opens.spots c.args.number node _ f
+      | inl e ↦ value_text_shown c.args.self.now c.self.inside.nodes.items opens.models c.args.number node _ f e.1
+      | inr (inl e) ↦ value_text_shown c.args.self.now c.self.inside.nodes.items opens.models c.args.number node _ f
           e
-      | inr (inr (inl e)) ↦ word_shown c.args.self.now c.self.inside.nodes.items opens.spots c.args.number
+      | inr (inr (inl e)) ↦ value_text_shown c.args.self.now c.self.inside.nodes.items opens.models c.args.number
           node _ f e
-      | inr (inr (inr (inl e))) ↦ word_shown c.args.self.now c.self.inside.nodes.items opens.spots
+      | inr (inr (inr (inl e))) ↦ value_text_shown c.args.self.now c.self.inside.nodes.items opens.models
           c.args.number node _ f e
-      | inr (inr (inr (inr e))) ↦ word_shown c.args.self.now c.self.inside.nodes.items opens.spots
+      | inr (inr (inr (inr e))) ↦ value_text_shown c.args.self.now c.self.inside.nodes.items opens.models
           c.args.number node _ f e
     ]

@@ -38,23 +38,23 @@ returns-clause-tree c at =
 pub returns-clause-piece : goal.returns-clause-piece
 returns-clause-piece c =
     let new = string_bytes c.in_ok-new_text.new_text in
-    let told : c.with_last_edit.result.pieces ≡ pieces_of new c.in_ok-new_text.written =
+    let new_pieces : c.with_last_edit.result.pieces ≡ pieces_of new c.in_ok-new_text.written =
     c.with_last_edit.ensures.pieces
     ∙ ap (λ (b : List ℕ). pieces_of b c.in_ok-new_text.written) ((c.in_ok-new.ensures {u = tt}).bytes ∙
     c.as_str.ensures.value) in
-    subst (IsAmong (literal_bytes c.args.text.now)) (sym told)
+    subst (IsAmong (literal_bytes c.args.text.now)) (sym new_pieces)
     (literal_among c.args.self.now.bytes (literal_bytes c.args.text.now) new c.in_ok-new_text.written
     (c.in_ok-new_text.ensures {u = tt}).swapped (literal_some c.args.text.now))
 
 pub returns-clause-pieces : goal.returns-clause-pieces
 returns-clause-pieces c =
     let new = string_bytes c.in_ok-new_text.new_text in
-    let kept = c.lemma_pieces.ensures in
-    let told : c.with_last_edit.result.pieces ≡ pieces_of new c.in_ok-new_text.written =
+    let spliced = c.lemma_pieces.ensures in
+    let new_pieces : c.with_last_edit.result.pieces ≡ pieces_of new c.in_ok-new_text.written =
     c.with_last_edit.ensures.pieces
     ∙ ap (λ (b : List ℕ). pieces_of b c.in_ok-new_text.written) ((c.in_ok-new.ensures {u = tt}).bytes ∙
     c.as_str.ensures.value) in
     let most = most_pieces c.args.self.now.bytes (literal_bytes c.args.text.now) new c.in_ok-new_text.written
-    kept.0
-    (c.in_ok-new_text.ensures {u = tt}).swapped kept.1 in
-    rw (told, kept.2) most
+    spliced.0
+    (c.in_ok-new_text.ensures {u = tt}).swapped spliced.1 in
+    rw (new_pieces, spliced.2) most

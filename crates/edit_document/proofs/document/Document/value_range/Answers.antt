@@ -21,21 +21,21 @@ returns-in_err-number c form manifest =
 
 pub returns-in_err-span : goal.returns-in_err-span
 returns-in_err-span c form manifest =
-    let told = c.in_ok-number.ensures {u = tt} in
+    let number_facts = c.in_ok-number.ensures {u = tt} in
     subst (λ (r : Option (ℕ × ℕ)). HasRange form (place_view c.args.place.now) r)
     (sym c.from_residual-in_err-span.ensures)
     (spanless_value c.self.inside c.args.self.now form
     (place_view c.args.place.now) c.in_ok-number.number c.index.result.now c.self.invariant c.self.view_is
-    manifest told.1 told.2 c.index.ensures (c.in_err-span.was {u = tt}))
+    manifest number_facts.1 number_facts.2 c.index.ensures (c.in_err-span.was {u = tt}))
 
 pub returns : goal.returns
 returns c form manifest =
-    let told = c.in_ok-number.ensures {u = tt} in
+    let number_facts = c.in_ok-number.ensures {u = tt} in
     subst (λ (p : ℕ × ℕ). IsWrittenAt form (place_view c.args.place.now) p.0 p.1)
     (ap₂ (λ (m : ℕ) (n : ℕ). pair m n) (sym c.saturating_sub.ensures) (sym c.saturating_sub-2.ensures))
     (spanned_value c.self.inside c.args.self.now form
     (place_view c.args.place.now) c.in_ok-number.number c.index.result.now c.in_ok-span.span c.len-len.result
-    c.self.invariant c.self.view_is manifest told.1 told.2 c.index.ensures
+    c.self.invariant c.self.view_is manifest number_facts.1 number_facts.2 c.index.ensures
     (c.in_ok-span.was {u = tt}) (c.len-len.ensures ∙ c.self.inside.text.bytes.ok.0))
   where
     pair : ℕ → ℕ → ℕ × ℕ

@@ -21,12 +21,12 @@ pub returns-clause-replaces : goal.returns-clause-replaces
 returns-clause-replaces c =
     let f = c.lemma_form.ensures.some in
     let m = subst (λ (b : List ℕ). IsDocument b f.0) (sym c.as_str.ensures) f.1 in
-    let told = c.requires.is_value f.0 f.1 in
+    let value_there = c.requires.is_value f.0 f.1 in
     replaces_one c.args.self.now.bytes (string_bytes c.in_ok-new-in-Some.new) f.0
-    (place_view c.args.place.now) c.args.text.now f.1 told
+    (place_view c.args.place.now) c.args.text.now f.1 value_there
     ((c.in_ok-new-in-Some.ensures {u = tt}).text ∙
     (one_rewrite c.as_str.result.now f.0 (place_view c.args.place.now) c.args.text.now
-    (c.in-Some.start, c.in-Some.end, c.args.text.now) m c.as_str.utf8 told
+    (c.in-Some.start, c.in-Some.end, c.args.text.now) m c.as_str.utf8 value_there
     (c.in-Some.ensures {u = tt} f.0 f.1, refl)).bytes)
 
 pub returns-clause-swapped : goal.returns-clause-swapped

@@ -22,8 +22,8 @@ plan_set_version-requires-clause-inputs c = (
 
 pub returns-in-Ok-clause-planned : goal.returns-in-Ok-clause-planned
 returns-in-Ok-clause-planned c =
-    let t = target_of c.args.words.now.target in
-    let a = selection_view c.args.words.now.selection in
+    let t = target_of c.args.args.now.target in
+    let a = selection_view c.args.args.now.selection in
     let w = workspace_view c.args.read.now.workspace in
     let there : IsVersionPlan t a w c.as_slice.result.now c.in-Ok.plan = record {
       readable = All-map (λ (q : PackageModel). IsReadable q.version) package_view
@@ -34,16 +34,16 @@ returns-in-Ok-clause-planned c =
 
 pub returns-in-Err-clause-error : goal.returns-in-Err-clause-error
 returns-in-Err-clause-error c =
-    let t = target_of c.args.words.now.target in
-    let a = selection_view c.args.words.now.selection in
+    let t = target_of c.args.args.now.target in
+    let a = selection_view c.args.args.now.selection in
     let w = workspace_view c.args.read.now.workspace in
     subst (λ is. IsCauseOf t a w is c.explain_set_version.result.error) c.as_slice.ensures.value
     (subst (λ e. IsCauseOf t a w c.as_slice.result.now e) (sym c.explain_set_version.ensures) c.in-Err.ensures.error)
 
 pub returns-in-Err-clause-counted : goal.returns-in-Err-clause-counted
 returns-in-Err-clause-counted c device =
-    let t = target_of c.args.words.now.target in
-    let a = selection_view c.args.words.now.selection in
+    let t = target_of c.args.args.now.target in
+    let a = selection_view c.args.args.now.selection in
     let w = workspace_view c.args.read.now.workspace in
     versions_count t a w c.as_slice.result.now c.in-Err.error c.in-Err.ensures.error
     (sym (ap number_of c.explain_set_version.ensures) ∙ device)

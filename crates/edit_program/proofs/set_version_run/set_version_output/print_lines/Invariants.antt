@@ -1,6 +1,6 @@
 use Rattle.std.proofs.Common.{map, take}
 use Rattle.std.specs.Io.KnownBytes.{Appends}
-use Rattle.edit_set_version.specs.ToldLines.{report_line_view}
+use Rattle.edit_set_version.specs.LineViews.{report_line_view}
 use Rattle.edit_program.specs.Printed.{statuses}
 use Rattle.edit_program.proofs.set_version_run.set_version_output.print_lines.Given as goal
 

@@ -8,7 +8,7 @@ use Rattle.edit_program.proofs.upgrade_output.absent_crates.absent_names.Goals a
 
 pub returns : goal.returns
 returns c =
-    c.loop-look.invariant
-    ∙ ap (λ (looks : List Look). absent_names (holds c.in_ok-excluded.excluded) looks)
-    (take_all c.loop-look.look-index c.args.looks.now c.loop-look-test.false)
-    ∙ same_absent _ _ c.args.looks.now c.in_ok-excluded.ensures
+    c.loop-lookup.invariant
+    ∙ ap (λ (lookups : List Look). absent_names (holds c.in_ok-excluded.excluded) lookups)
+    (take_all c.loop-lookup.lookup-index c.args.lookups.now c.loop-lookup-test.false)
+    ∙ same_absent _ _ c.args.lookups.now c.in_ok-excluded.ensures

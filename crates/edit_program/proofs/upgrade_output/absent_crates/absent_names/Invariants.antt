@@ -5,5 +5,5 @@ use Rattle.edit_program.specs.Absent.{absent_names}
 use Rattle.edit_program.proofs.upgrade_output.absent_crates.absent_names.Given as goal
 
 -- the names so far
-abbrev pub invariant-loop-look : goal.invariant-loop-look
-invariant-loop-look l = map string_bytes l.names.items ≡ absent_names (holds l.excluded) (take l.look-index l.looks)
+abbrev pub invariant-loop-lookup : goal.invariant-loop-lookup
+invariant-loop-lookup l = map string_bytes l.names.items ≡ absent_names (holds l.excluded) (take l.lookup-index l.lookups)

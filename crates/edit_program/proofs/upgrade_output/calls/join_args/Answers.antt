@@ -6,4 +6,4 @@ use Rattle.edit_program.proofs.upgrade_output.calls.join_args.Goals as goal
 
 pub returns : goal.returns
 returns c =
-    IfOk-weaker c.join.result _ _ (λ s h. h ∙ joined_names (codes " ") c.args.words.now) c.join.ensures.ok
+    IfOk-weaker c.join.result _ _ (λ s h. h ∙ joined_names (codes " ") c.args.args.now) c.join.ensures.ok

@@ -2,27 +2,27 @@ use Rattle.std.proofs.Common.{inl, inr, subst}
 use Rattle.std.specs.Io.KnownBytes.{Appends}
 use Rattle.std.proofs.KnownBytes.{Appends-trans}
 use Rattle.std.proofs.lemmas.Result.{IfErr-weaker, on_ok_weaker}
-use Rattle.edit_steps.proofs.ErrorFields.{on_refusal, refusal_made}
+use Rattle.edit_steps.proofs.ErrorFields.{on_failure, failure_made}
 use Rattle.edit_program.specs.Delivered.{AreBothWritten, HaveStopped}
 use Rattle.edit_program.specs.Delivery.{delivery_of}
 use Rattle.edit_program.specs.StderrText.{call_statuses}
-use Rattle.edit_program.proofs.DeliveryLemmas.{calls_cause, delivered, end_cause, told_calls, told_to}
+use Rattle.edit_program.proofs.DeliveryLemmas.{calls_cause, delivered, end_cause, lent_calls, printed_to}
 use Rattle.edit_program.proofs.upgrade_output.delivery.deliver.Goals as goal
 
 pub returns-in_err-due-clause-cause : goal.returns-in_err-due-clause-cause
 returns-in_err-due-clause-cause g c =
     let out = g.O.Write.contents c.args.out.now in
-    refusal_made c.from_residual.result c.in_err-due.field-0.0 _ c.from_residual.ensures.1
+    failure_made c.from_residual.result c.in_err-due.field-0.0 _ c.from_residual.ensures.1
     (calls_cause (Appends out out) (delivery_of c.args.task.now) (g.S.Store.view c.args.files.now)
     c.in_err-due.field-0.0 c.in_err-due.ensures.error)
 
 pub returns-in_err-carry_out-clause-stopped : goal.returns-in_err-carry_out-clause-stopped
 returns-in_err-carry_out-clause-stopped g c =
     let task = c.args.task.now in
-    on_refusal c.from_residual-in_err-carry_out.result _ (inr (inl
-    (told_to HaveStopped (Appends (g.O.Write.contents c.args.out.now) (g.O.Write.contents c.print_plan.new.out))
+    on_failure c.from_residual-in_err-carry_out.result _ (inr (inl
+    (printed_to HaveStopped (Appends (g.O.Write.contents c.args.out.now) (g.O.Write.contents c.print_plan.new.out))
     (delivery_of task) (g.S.Store.view c.args.files.now) (g.S.Store.view c.carry_out.new.files) _ _ _ _
-    (told_calls task.lock task.offline _ _ _ _ c.as_slice-calls.ensures.value c.in_ok-made.ensures
+    (lent_calls task.lock task.offline _ _ _ _ c.as_slice-calls.ensures.value c.in_ok-made.ensures
     c.in_ok-due.ensures.calls)
     c.in_ok-print_plan.ensures.shows c.in_ok-check_lock.ensures.ok c.upgrade_outputs_to_write.ensures
     c.as_slice-file.ensures.value c.in_ok-outputs.ensures.file c.in_err-carry_out.ensures.stopped)))
@@ -32,9 +32,9 @@ returns-clause-done g c =
     let task = c.args.task.now in
     on_ok_weaker c.conclude.result
     (λ complete. delivered _ _ _ _
-    (told_to AreBothWritten (Appends (g.O.Write.contents c.args.out.now) (g.O.Write.contents c.print_plan.new.out))
+    (printed_to AreBothWritten (Appends (g.O.Write.contents c.args.out.now) (g.O.Write.contents c.print_plan.new.out))
     (delivery_of task) (g.S.Store.view c.args.files.now) (g.S.Store.view c.carry_out.new.files) _ _ _ _
-    (told_calls task.lock task.offline _ _ _ _ c.as_slice-calls.ensures.value c.in_ok-made.ensures
+    (lent_calls task.lock task.offline _ _ _ _ c.as_slice-calls.ensures.value c.in_ok-made.ensures
     c.in_ok-due.ensures.calls)
     c.in_ok-print_plan.ensures.shows c.in_ok-check_lock.ensures.ok c.upgrade_outputs_to_write.ensures
     c.as_slice-file.ensures.value c.in_ok-outputs.ensures.file c.in_ok-carry_out.ensures.written) complete)
@@ -43,10 +43,10 @@ returns-clause-done g c =
 pub returns-clause-stopped : goal.returns-clause-stopped
 returns-clause-stopped g c =
     let task = c.args.task.now in
-    on_refusal c.conclude.result _ (inr (inr
-    (told_to AreBothWritten (Appends (g.O.Write.contents c.args.out.now) (g.O.Write.contents c.print_plan.new.out))
+    on_failure c.conclude.result _ (inr (inr
+    (printed_to AreBothWritten (Appends (g.O.Write.contents c.args.out.now) (g.O.Write.contents c.print_plan.new.out))
     (delivery_of task) (g.S.Store.view c.args.files.now) (g.S.Store.view c.carry_out.new.files) _ _ _ _
-    (told_calls task.lock task.offline _ _ _ _ c.as_slice-calls.ensures.value c.in_ok-made.ensures
+    (lent_calls task.lock task.offline _ _ _ _ c.as_slice-calls.ensures.value c.in_ok-made.ensures
     c.in_ok-due.ensures.calls)
     c.in_ok-print_plan.ensures.shows c.in_ok-check_lock.ensures.ok c.upgrade_outputs_to_write.ensures
     c.as_slice-file.ensures.value c.in_ok-outputs.ensures.file c.in_ok-carry_out.ensures.written)))
@@ -62,7 +62,7 @@ returns-clause-content g c =
     (λ notes. Appends-trans a b e _ _ c.in_ok-print_plan.ensures.checks
     (Appends-trans b d e _ _
     (subst (λ calls. Appends b d (call_statuses calls))
-    (told_calls task.lock task.offline _ _ _ _ c.as_slice-calls.ensures.value c.in_ok-made.ensures
+    (lent_calls task.lock task.offline _ _ _ _ c.as_slice-calls.ensures.value c.in_ok-made.ensures
     c.in_ok-due.ensures.calls)
     c.in_ok-carry_out.ensures.text) notes))
     c.conclude.ensures.text
@@ -75,8 +75,8 @@ returns-clause-cause g c =
     let new = g.S.Store.view c.carry_out.new.files in
     IfErr-weaker c.conclude.result _ _
     (λ r. end_cause HasFields (delivery_of task) old new r.error
-    (told_to AreBothWritten HasFields (delivery_of task) old new _ _ _ _
-    (told_calls task.lock task.offline _ _ _ _ c.as_slice-calls.ensures.value c.in_ok-made.ensures
+    (printed_to AreBothWritten HasFields (delivery_of task) old new _ _ _ _
+    (lent_calls task.lock task.offline _ _ _ _ c.as_slice-calls.ensures.value c.in_ok-made.ensures
     c.in_ok-due.ensures.calls)
     c.in_ok-print_plan.ensures.shows c.in_ok-check_lock.ensures.ok c.upgrade_outputs_to_write.ensures
     c.as_slice-file.ensures.value c.in_ok-outputs.ensures.file c.in_ok-carry_out.ensures.written))

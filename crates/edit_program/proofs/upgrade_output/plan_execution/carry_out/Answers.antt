@@ -1,20 +1,20 @@
 use Rattle.std.proofs.Common.{◌≤◌, arith, inl, inr}
 use Rattle.std.proofs.lemmas.Result.{IfErr-weaker, on_err_weaker, on_ok_weaker}
 use Rattle.edit_report.specs.Applied.{AreWritten, HasStopped}
-use Rattle.edit_steps.proofs.ErrorFields.{on_refusal}
+use Rattle.edit_steps.proofs.ErrorFields.{on_failure}
 use Rattle.edit_program.proofs.DeliveryLemmas.{behind_first, refused_later}
 use Rattle.edit_program.proofs.StagingLemmas.{all_stopped_after, behind_after, stopped_before, written_still}
 use Rattle.edit_program.proofs.upgrade_output.plan_execution.carry_out.Goals as goal
 
 pub returns-in_err-stage_outputs-clause-stopped : goal.returns-in_err-stage_outputs-clause-stopped
 returns-in_err-stage_outputs-clause-stopped g c =
-    on_refusal c.from_residual.result _ (stopped_before c.args.outputs.now c.args.file.now
+    on_failure c.from_residual.result _ (stopped_before c.args.outputs.now c.args.file.now
     (g.S.Store.view c.args.files.now) (g.S.Store.view c.stage_outputs.new.files)
     c.stage_outputs.ensures.reads)
 
 pub returns-in_err-write_outputs-clause-stopped : goal.returns-in_err-write_outputs-clause-stopped
 returns-in_err-write_outputs-clause-stopped g c =
-    on_refusal c.from_residual-in_err-write_outputs.result _
+    on_failure c.from_residual-in_err-write_outputs.result _
     (all_stopped_after c.args.outputs.now c.args.file.now (g.S.Store.view c.args.files.now)
     (g.S.Store.view c.stage_outputs.new.files) (g.S.Store.view c.write_outputs.new.files)
     c.stage_outputs.ensures.reads (inl c.in_err-write_outputs.ensures.stopped))

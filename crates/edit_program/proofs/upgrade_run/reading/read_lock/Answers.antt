@@ -10,7 +10,7 @@ pub returns-in-Err-clause-error : goal.returns-in-Err-clause-error
 returns-in-Err-clause-error g c =
     let old = g.S.Store.view c.args.files.now in
     let new = g.S.Store.view c.read_lock_at.new.files in
-    let e = c.in-Err.refusal.error in
+    let e = c.in-Err.failure.error in
     subst (λ named. IsCallError call.Read old new e
     ⊎ (old.tells ≡ true → HasNoLock old.file_at c.args.current.now (given named) e)) (sym c.in-Some.is)
     c.in-Err.ensures.error

@@ -3,7 +3,7 @@ use Rattle.std.specs.Prelude.{◌⊎◌}
 use Rattle.std.specs.Io.KnownBytes.{Appends}
 use Rattle.edit_base.specs.Errors.{number_of}
 use Rattle.edit_sources.specs.Configured.{given}
-use Rattle.edit_steps.proofs.ErrorFields.{refusal_has}
+use Rattle.edit_steps.proofs.ErrorFields.{failure_has}
 use Rattle.edit_report.specs.Applied.{HaveDistinctPaths}
 use Rattle.edit_store.specs.Store.{SameFiles}
 use Rattle.edit_program.specs.Delivered.{IsDeliveryInterrupted}
@@ -11,7 +11,7 @@ use Rattle.edit_program.specs.Delivery.{Delivery}
 use Rattle.edit_program.specs.Run.{run_at}
 use Rattle.edit_program.specs.StderrText.{AreWarningsInOrder}
 use Rattle.edit_program.specs.Tables.{AreInOrder}
-use Rattle.edit_program.specs.TellingCauses.{IsDeliveryCause}
+use Rattle.edit_program.specs.DeliveryCauses.{IsDeliveryCause}
 use Rattle.edit_program.specs.UpgradeCauses.{IsUpgradeCause}
 use Rattle.edit_lock.specs.Views.{lock_view}
 use Rattle.edit_program.specs.LockRead.{IsLockRead}
@@ -24,7 +24,7 @@ use Rattle.edit_program.proofs.upgrade_run.upgrading.upgrade.Goals as goal
 
 pub returns-in_err-readings-clause-why : goal.returns-in_err-readings-clause-why
 returns-in_err-readings-clause-why g c =
-    let words = c.args.words.now in
+    let args = c.args.args.now in
     let current = c.args.place.now.current.now in
     let home = given c.args.place.now.cargo_home in
     let local = g.T.Store.view c.args.index_files in
@@ -32,27 +32,27 @@ returns-in_err-readings-clause-why g c =
     let mid = g.S.Store.view c.read.new.files in
     let e = c.in_err-readings.field-0.0 in
     let out = g.O.Write.contents c.args.out.now in
-    refusal_has c.from_residual-in_err-readings.result e
-    (λ error. IsUpgradeCause (Appends out out) words (run_at current home local old mid) error)
+    failure_has c.from_residual-in_err-readings.result e
+    (λ error. IsUpgradeCause (Appends out out) args (run_at current home local old mid) error)
     c.from_residual-in_err-readings.ensures.1
-    (lock_cause (Appends out out) words current home local old mid e.error c.read.ensures.store.files
+    (lock_cause (Appends out out) args current home local old mid e.error c.read.ensures.store.files
     c.in_err-readings.ensures.error)
 
 pub returns-in-Err-clause-why : goal.returns-in-Err-clause-why
 returns-in-Err-clause-why g c =
-    let words = c.args.words.now in
+    let args = c.args.args.now in
     let current = c.args.place.now.current.now in
     let home = given c.args.place.now.cargo_home in
     let local = g.T.Store.view c.args.index_files in
     let old = g.S.Store.view c.args.files.now in
     let mid = g.S.Store.view c.explain_upgrade.new.files in
     let s = c.in_ok-readings.readings.sources in
-    let read : old.tells ≡ true → IsRead words current home old.file_at s =
+    let read : old.tells ≡ true → IsRead args current home old.file_at s =
     c.in_ok-readings.ensures.read in
     let out = g.O.Write.contents c.args.out.now in
-    subst (λ e. IsUpgradeCause (Appends out out) words (run_at current home local old mid) e)
+    subst (λ e. IsUpgradeCause (Appends out out) args (run_at current home local old mid) e)
     (sym c.explain_upgrade.ensures.same)
-    (plan_cause (Appends out out) words current home local old mid s c.in-Err.error
+    (plan_cause (Appends out out) args current home local old mid s c.in-Err.error
     (λ path. c.explain_upgrade.ensures.reads.files path ∙ c.in_ok-readings.ensures.store.files path) read
     c.in-Err.ensures.error)
 
@@ -65,11 +65,11 @@ returns-in-Err-clause-error g c =
 
 pub deliver-requires-clause-outputs : goal.deliver-requires-clause-outputs
 deliver-requires-clause-outputs g c =
-    let words = c.args.words.now in
+    let args = c.args.args.now in
     let s = c.in_ok-readings.readings.sources in
     let local = g.T.Store.view c.args.index_files in
     subst (λ p. HaveDistinctPaths p.outputs.items) (sym (ap (λ (d : Delivery). d.plan) c.delivery_task-task.ensures))
-    (plan_paths words s local c.in-Ok.plan c.in_ok-readings.ensures.planned.paths
+    (plan_paths args s local c.in-Ok.plan c.in_ok-readings.ensures.planned.paths
     c.in-Ok.ensures.planned)
 
 pub deliver-requires-clause-rows : goal.deliver-requires-clause-rows
@@ -86,7 +86,7 @@ deliver-requires-clause-warnings g c =
 
 pub returns-in-Ok-deliver-clause-done : goal.returns-in-Ok-deliver-clause-done
 returns-in-Ok-deliver-clause-done g c =
-    let words = c.args.words.now in
+    let args = c.args.args.now in
     let current = c.args.place.now.current.now in
     let home = given c.args.place.now.cargo_home in
     let local = g.T.Store.view c.args.index_files in
@@ -98,24 +98,24 @@ returns-in-Ok-deliver-clause-done g c =
     let s = c.in_ok-readings.readings.sources in
     let plan = c.in-Ok.plan in
     let path = given c.as_deref-path.result in
-    let read : old.tells ≡ true → IsRead words current home old.file_at s =
+    let read : old.tells ≡ true → IsRead args current home old.file_at s =
     c.in_ok-readings.ensures.read in
     let planned = c.in-Ok.ensures.planned in
-    let at = subst (IsPathOf current (given words.update_calls)) (sym c.as_deref-path.ensures.value)
+    let at = subst (IsPathOf current (given args.update_calls)) (sym c.as_deref-path.ensures.value)
     c.in_ok-named.ensures.path in
     let lock = option_map (λ l. lock_view l.now) c.as_ref-lock.result in
-    let locked : old.tells ≡ true → IsLockRead old.file_at current (given words.lock_file) lock =
-    λ t. subst (IsLockRead old.file_at current (given words.lock_file))
+    let locked : old.tells ≡ true → IsLockRead old.file_at current (given args.lock_file) lock =
+    λ t. subst (IsLockRead old.file_at current (given args.lock_file))
     (sym (same_lock c.as_ref-lock.result c.in_ok-readings.readings.lock c.as_ref-lock.ensures.value))
     (c.in_ok-readings.ensures.locked t) in
-    upgraded c.has_outputs.result HasFields HasDecodedValue words current home local old mid new s plan path lock
+    upgraded c.has_outputs.result HasFields HasDecodedValue args current home local old mid new s plan path lock
     c.in_ok-readings.ensures.store read planned at locked
     (answered c.has_outputs.result HasFields HasDecodedValue mid new _ _ c.delivery_task-task.ensures c.has_outputs.ensures
     c.in-Ok-deliver.ensures.done c.in-Ok-deliver.ensures.content)
 
 pub returns-clause-error : goal.returns-clause-error
 returns-clause-error g c =
-    let words = c.args.words.now in
+    let args = c.args.args.now in
     let current = c.args.place.now.current.now in
     let home = given c.args.place.now.cargo_home in
     let local = g.T.Store.view c.args.index_files in
@@ -126,24 +126,24 @@ returns-clause-error g c =
     let s = c.in_ok-readings.readings.sources in
     let plan = c.in-Ok.plan in
     let path = given c.as_deref-path.result in
-    let read : old.tells ≡ true → IsRead words current home old.file_at s =
+    let read : old.tells ≡ true → IsRead args current home old.file_at s =
     c.in_ok-readings.ensures.read in
     let planned = c.in-Ok.ensures.planned in
-    let at = subst (IsPathOf current (given words.update_calls)) (sym c.as_deref-path.ensures.value)
+    let at = subst (IsPathOf current (given args.update_calls)) (sym c.as_deref-path.ensures.value)
     c.in_ok-named.ensures.path in
     let lock = option_map (λ l. lock_view l.now) c.as_ref-lock.result in
-    let locked : old.tells ≡ true → IsLockRead old.file_at current (given words.lock_file) lock =
-    λ t. subst (IsLockRead old.file_at current (given words.lock_file))
+    let locked : old.tells ≡ true → IsLockRead old.file_at current (given args.lock_file) lock =
+    λ t. subst (IsLockRead old.file_at current (given args.lock_file))
     (sym (same_lock c.as_ref-lock.result c.in_ok-readings.readings.lock c.as_ref-lock.ensures.value))
     (c.in_ok-readings.ensures.locked t) in
-    broken HasFields words current home local old mid new s plan path lock c.in_ok-readings.ensures.store
+    broken HasFields args current home local old mid new s plan path lock c.in_ok-readings.ensures.store
     read planned at locked
     (subst (λ d. SameFiles mid.file_at new.file_at ⊎ IsDeliveryInterrupted HasFields d mid new) c.delivery_task-task.ensures
     c.in-Err-deliver.ensures.stopped)
 
 pub returns-clause-why : goal.returns-clause-why
 returns-clause-why g c =
-    let words = c.args.words.now in
+    let args = c.args.args.now in
     let current = c.args.place.now.current.now in
     let home = given c.args.place.now.cargo_home in
     let local = g.T.Store.view c.args.index_files in
@@ -154,18 +154,18 @@ returns-clause-why g c =
     let s = c.in_ok-readings.readings.sources in
     let plan = c.in-Ok.plan in
     let path = given c.as_deref-path.result in
-    let read : old.tells ≡ true → IsRead words current home old.file_at s =
+    let read : old.tells ≡ true → IsRead args current home old.file_at s =
     c.in_ok-readings.ensures.read in
     let planned = c.in-Ok.ensures.planned in
-    let at = subst (IsPathOf current (given words.update_calls)) (sym c.as_deref-path.ensures.value)
+    let at = subst (IsPathOf current (given args.update_calls)) (sym c.as_deref-path.ensures.value)
     c.in_ok-named.ensures.path in
     let lock = option_map (λ l. lock_view l.now) c.as_ref-lock.result in
-    let locked : old.tells ≡ true → IsLockRead old.file_at current (given words.lock_file) lock =
-    λ t. subst (IsLockRead old.file_at current (given words.lock_file))
+    let locked : old.tells ≡ true → IsLockRead old.file_at current (given args.lock_file) lock =
+    λ t. subst (IsLockRead old.file_at current (given args.lock_file))
     (sym (same_lock c.as_ref-lock.result c.in_ok-readings.readings.lock c.as_ref-lock.ensures.value))
     (c.in_ok-readings.ensures.locked t) in
-    subst (λ e. IsUpgradeCause HasFields words (run_at current home local old new) e) (sym c.explain_delivery.ensures)
-    (stop_cause HasFields words current home local old mid new s plan path lock c.in-Err-deliver.error.error
+    subst (λ e. IsUpgradeCause HasFields args (run_at current home local old new) e) (sym c.explain_delivery.ensures)
+    (stop_cause HasFields args current home local old mid new s plan path lock c.in-Err-deliver.error.error
     c.in_ok-readings.ensures.store read planned at locked
     (subst (λ d. IsDeliveryCause HasFields d mid new c.in-Err-deliver.error.error) c.delivery_task-task.ensures
     c.in-Err-deliver.ensures.cause))
@@ -190,6 +190,6 @@ returns-in_err-readings-clause-counted g c =
     let old = g.S.Store.view c.args.files.now in
     let mid = g.S.Store.view c.read.new.files in
     let e = c.in_err-readings.field-0.0 in
-    refusal_has c.from_residual-in_err-readings.result e
+    failure_has c.from_residual-in_err-readings.result e
     (λ error. CountsEitherFault g.T.Store.view c.args.index_files old mid error)
     c.from_residual-in_err-readings.ensures.1 (λ device. inl (c.in_err-readings.ensures.counted device))

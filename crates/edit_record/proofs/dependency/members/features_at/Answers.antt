@@ -4,7 +4,7 @@ use Rattle.edit_tree.specs.Assertions.{key}
 use Rattle.edit_document.specs.ItemViews.{document_of, place_of, view_of}
 use Rattle.edit_record.specs.ReadEntries.{Tree, feature_texts, ok_map}
 use Rattle.edit_record.specs.RecordViews.{IsErrorOfResult, texts_view}
-use Rattle.edit_record.proofs.EntryLemmas.{member_tree, refusal_stays}
+use Rattle.edit_record.proofs.EntryLemmas.{member_tree, failure_stays}
 use Rattle.edit_record.proofs.dependency.members.features_at.Goals as goal
 
 pub returns-in_err-feature_texts-in-Some-clause-error :
@@ -17,7 +17,7 @@ returns-in_err-feature_texts-in-Some-clause-error c =
     let P : Tree → Type 0 = λ t. IsErrorOfResult (feature_texts t c.args.dep.now (view_of c.in-Some.item))
     c.in_err-feature_texts-in-Some.field-0.0 in
     rw (p.1, p.2, there.2)
-    (refusal_stays _ _ _ (subst P same c.in_err-feature_texts-in-Some.ensures.error))
+    (failure_stays _ _ _ (subst P same c.in_err-feature_texts-in-Some.ensures.error))
 
 pub returns-in_ok-feature_texts-in-Some-clause-ok :
     goal.returns-in_ok-feature_texts-in-Some-clause-ok

@@ -9,7 +9,7 @@ pub returns-clause-taken : goal.returns-clause-taken
 returns-clause-taken c s kind t stands =
     let target = place_view c.args.place.now in
     let named = c.in_ok-named.named in
-    let taken = element_taken c.args.text.now target c.args.marks.now s c.args.spots
+    let taken = element_taken c.args.text.now target c.args.tokens.now s c.args.offsets
     (named, c.in_ok-named.front) c.args.self.now
     (record { prefix = c.step_by_index-element.result; counts = c.count_more.new.counts })
     c.step_by_index-element.result c.is_at.result c.is_at_or_below.result kind t stands

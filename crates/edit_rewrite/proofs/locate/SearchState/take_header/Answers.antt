@@ -6,7 +6,7 @@ use Rattle.edit_rewrite.proofs.locate.SearchState.take_header.Goals as goal
 
 pub returns-clause-taken : goal.returns-clause-taken
 returns-clause-taken c s kind t stands =
-    let taken = header_taken c.args.text.now (place_view c.args.place.now) c.args.marks.now s c.args.spots
+    let taken = header_taken c.args.text.now (place_view c.args.place.now) c.args.tokens.now s c.args.offsets
     (c.in_ok-named.named, c.in_ok-named.front) c.args.self.now c.is_at.result c.is_at_or_below.result kind t stands
     (λ table resolve n ns h follows begins. (c.in_ok-named.ensures {u = tt}).goes table resolve n ns h
     (subst (λ (xs : List ℕ). Follows (place_view c.args.place.now) xs resolve)

@@ -1,21 +1,21 @@
 use Rattle.std.proofs.Common.{◌≡◌, arith, false, rules, true}
-use Rattle.edit_shown.proofs.MarkLemmas.{shown_end, shown_more, shown_none}
+use Rattle.edit_shown.proofs.LineKindLemmas.{shown_end, shown_more, shown_none}
 use Rattle.edit_shown.specs.ShownLines.{is_shown}
 use Rattle.edit_shown.proofs.diff.context_lines.part_length.Goals as goal
 
 pub returns-then-not-is_shown-clause-same : goal.returns-then-not-is_shown-clause-same
 returns-then-not-is_shown-clause-same c =
-    let is : is_shown c.args.marks.now c.loop-j.j ≡ false = search rules in
-    omega (arith, c.loop-j.invariant, shown_end c.args.marks.now c.loop-j.j (omega arith) is)
+    let is : is_shown c.args.kinds.now c.loop-j.j ≡ false = search rules in
+    omega (arith, c.loop-j.invariant, shown_end c.args.kinds.now c.loop-j.j (omega arith) is)
 
 pub loop-j-preserved : goal.loop-j-preserved
 loop-j-preserved c =
-    let is : is_shown c.args.marks.now c.loop-j.j ≡ true = search rules in
+    let is : is_shown c.args.kinds.now c.loop-j.j ≡ true = search rules in
     omega (
       arith,
       c.loop-j.invariant,
       c.loop-j.auto.j,
-      shown_more c.args.marks.now c.loop-j.j (omega arith) is,
+      shown_more c.args.kinds.now c.loop-j.j (omega arith) is,
     )
 
 pub returns-clause-same : goal.returns-clause-same
@@ -25,5 +25,5 @@ returns-clause-same c =
       c.requires,
       c.loop-j.invariant,
       c.loop-j.auto.j-end,
-      shown_none c.args.marks.now c.loop-j.j (omega arith),
+      shown_none c.args.kinds.now c.loop-j.j (omega arith),
     )

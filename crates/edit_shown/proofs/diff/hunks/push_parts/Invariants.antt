@@ -7,6 +7,6 @@ use Rattle.edit_shown.proofs.diff.hunks.push_parts.Given as goal
 abbrev pub invariant-loop-i : goal.invariant-loop-i
 invariant-loop-i l = record {
   text : l.text.items ≡ l.initial.text.items
-      ++ flat_map (text_at l.marks (map (λ x. x.now) l.lines)) (range_with_len 0 l.i);
-  counted : AreCounted (take l.i l.marks) l.before.old l.before.new;
+      ++ flat_map (text_at l.kinds (map (λ x. x.now) l.lines)) (range_with_len 0 l.i);
+  counted : AreCounted (take l.i l.kinds) l.before.old l.before.new;
 }

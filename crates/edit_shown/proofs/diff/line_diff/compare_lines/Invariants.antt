@@ -10,7 +10,7 @@ front olds news n = flat_map (λ i. compare_lines_at (slice_get olds i) (slice_g
 
 abbrev pub invariant-loop-i : goal.invariant-loop-i
 invariant-loop-i l = record {
-  marks : l.marked.marks.items ≡ line_kinds (front (map (λ x. x.now) l.olds) (map (λ x. x.now) l.news) l.i);
-  lines : map (λ x. x.now) l.marked.lines.items
+  kinds : l.diff_lines.kinds.items ≡ line_kinds (front (map (λ x. x.now) l.olds) (map (λ x. x.now) l.news) l.i);
+  lines : map (λ x. x.now) l.diff_lines.lines.items
       ≡ lines_in (front (map (λ x. x.now) l.olds) (map (λ x. x.now) l.news) l.i);
 }

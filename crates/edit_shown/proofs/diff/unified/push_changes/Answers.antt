@@ -7,8 +7,8 @@ pub returns : goal.returns
 returns c =
     let now = map (λ (l : Bor (List ℕ)). l.now) in
     let e = parts_from _ _ _ _ c.args.old.now c.args.new.now
-    (c.deref-3.ensures.value ∙ c.in_ok-marked.ensures.marks)
-    (ap now c.deref-4.ensures.value ∙ c.in_ok-marked.ensures.lines)
+    (c.deref-3.ensures.value ∙ c.in_ok-diff_lines.ensures.kinds)
+    (ap now c.deref-4.ensures.value ∙ c.in_ok-diff_lines.ensures.lines)
     (ap now c.deref.ensures.value ∙ c.in_ok-olds.ensures.ok)
     (ap now c.deref-2.ensures.value ∙ c.in_ok-news.ensures.ok) in
     record {

@@ -45,7 +45,7 @@ returns-in-Err-clause-first g c =
     (AreCached mid c.inputs.cache × (mid.tells ≡ true → All (IsOfSome mid.file_at home pair) lists)) home pair
     c.args.inputs.now c.inputs.input-index c.input-item.result c.as_str.result.now
     (lists_for c.inputs.lists.shared) c.in-Err.cause c.inputs.invariant.store (
-      c.inputs.invariant.kept,
+      c.inputs.invariant.cached,
       since (λ files. All (IsOfSome files home pair) lists) old mid
           c.inputs.invariant.store c.inputs.invariant.others,
     ) c.inputs-test.true c.input-item.is
@@ -60,7 +60,7 @@ returns-in-Err-gather-clause-first g c =
     (given c.args.cargo_home) (pair_of c.args.named.now) c.args.inputs.now c.inputs.input-index
     c.input-item.result c.as_str-in-inputs.result.now (lists_for c.inputs.lists.shared) c.in-Err-gather.error
     (reads-on old (g.S.Store.view c.inputs.files) mid c.inputs.invariant.store c.share.ensures.store)
-    (c.share.ensures.preserved c.inputs.invariant.kept) c.inputs-test.true c.input-item.is c.as_str-in-inputs.ensures.value
+    (c.share.ensures.preserved c.inputs.invariant.cached) c.inputs-test.true c.input-item.is c.as_str-in-inputs.ensures.value
     c.inputs.invariant.read c.in-Err-gather.ensures.first
 
 pub returns-in-Err-clause-only : goal.returns-in-Err-clause-only
@@ -99,7 +99,7 @@ inputs-init g c =
     let shared = c.new-lists.result.shared in
     record {
       store = record { tells = refl; files = λ path. refl; later = omega arith; writes = refl };
-      kept = c.new-cache.ensures files;
+      cached = c.new-cache.ensures files;
       each = ap length c.new-lists.ensures.which;
       lists = subst (λ js. All (λ j. j < length shared.lists.items) js) (sym c.new-lists.ensures.which)
           (All-nil (λ j. j < length shared.lists.items));
@@ -120,13 +120,13 @@ inputs-preserved-in-Ok-true g c =
     let path = c.as_str.result.now in
     let one : old.tells ≡ true → IsListed old.file_at home pair path shared more
     = λ t. before (λ files. IsListed files home pair path shared more) old mid c.inputs.invariant.store
-    (λ told. c.in-Ok-true.ensures.listed c.in-Ok-true.field-0-test c.inputs.invariant.kept told
+    (λ tells_all. c.in-Ok-true.ensures.listed c.in-Ok-true.field-0-test c.inputs.invariant.cached tells_all
     (since (λ files. All (IsOfSome files home pair) shared.lists.items) old mid c.inputs.invariant.store
-    c.inputs.invariant.others told)) t in
+    c.inputs.invariant.others tells_all)) t in
     record {
       store = reads-on old mid (g.S.Store.view c.share.new.files) c.inputs.invariant.store
           c.share.ensures.store;
-      kept = c.share.ensures.preserved c.inputs.invariant.kept;
+      cached = c.share.ensures.preserved c.inputs.invariant.cached;
       each = each_more c.args.inputs.now c.inputs.input-index shared more c.inputs-test.true
           (c.in-Ok-true.ensures.each c.in-Ok-true.field-0-test) c.inputs.invariant.each;
       lists = c.in-Ok-true.ensures.lists;
@@ -153,10 +153,10 @@ inputs-preserved g c =
     = λ t. added_listed old.file_at home pair path c.in-Ok.configs shared more adds
     (c.inputs.invariant.others t)
     (before (λ files. AreGathered files home pair path c.in-Ok.configs.items) old mid reads
-    (c.in-Ok.ensures.read (c.share.ensures.preserved c.inputs.invariant.kept)) t) in
+    (c.in-Ok.ensures.read (c.share.ensures.preserved c.inputs.invariant.cached)) t) in
     record {
       store = reads-on old mid (g.S.Store.view c.gather.new.files) reads c.in-Ok.ensures.store;
-      kept = c.gather.ensures.preserved (c.share.ensures.preserved c.inputs.invariant.kept);
+      cached = c.gather.ensures.preserved (c.share.ensures.preserved c.inputs.invariant.cached);
       each = each_more c.args.inputs.now c.inputs.input-index shared more c.inputs-test.true
           (c.in_ok-add.ensures.each ∙ ap (λ s. length s.which.items + 1) same) c.inputs.invariant.each;
       lists = c.in_ok-add.ensures.lists;

@@ -10,7 +10,7 @@ use Rattle.edit_steps.proofs.upgrade_read.configs.read_all.Given as goal
 abbrev pub invariant-inputs : goal.invariant-inputs
 invariant-inputs g l = record {
   store : OnlyReads (g.S.Store.view l.initial.files) (g.S.Store.view l.files);
-  kept : AreCached (g.S.Store.view l.files) l.cache;
+  cached : AreCached (g.S.Store.view l.files) l.cache;
   each : length l.lists.shared.which.items ≡ length (take l.input-index l.inputs);
   lists : HasLists l.lists.shared;
   read : (g.S.Store.view l.initial.files).tells ≡ true

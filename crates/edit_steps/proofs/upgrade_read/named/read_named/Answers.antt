@@ -1,5 +1,5 @@
 use Rattle.edit_steps.proofs.NamedLemmas.{last_lacks}
-use Rattle.edit_steps.proofs.ErrorFields.{refusal_has}
+use Rattle.edit_steps.proofs.ErrorFields.{failure_has}
 use Rattle.edit_steps.specs.RequestView.{request_view}
 use Rattle.edit_base.specs.declared.errors.DeviceCall.TheVariants as call
 use Rattle.edit_steps.proofs.ErrorLemmas.{only_on, counted_on, wider}
@@ -13,17 +13,17 @@ use Rattle.edit_steps.proofs.upgrade_read.named.read_named.Goals as goal
 
 pub returns-in_err-last-clause-error : goal.returns-in_err-last-clause-error
 returns-in_err-last-clause-error g c =
-    refusal_has c.from_residual-in_err-last.result c.in_err-last.field-0.0 _
+    failure_has c.from_residual-in_err-last.result c.in_err-last.field-0.0 _
     c.from_residual-in_err-last.ensures.1
     (last_lacks (g.S.Store.view c.args.files.now) (g.S.Store.view c.read_file.new.files)
-    (g.S.Store.view c.read_file-2.new.files) c.args.current.now (request_view c.args.asked.now)
+    (g.S.Store.view c.read_file-2.new.files) c.args.current.now (request_view c.args.request.now)
     c.in_err-last.field-0.0.error c.in_ok-first.ensures.store c.in_err-last.ensures.error)
 
 pub returns-in_err-last-clause-only : goal.returns-in_err-last-clause-only
 returns-in_err-last-clause-only g c =
-    let asking = request_view c.args.asked.now in
+    let asking = request_view c.args.request.now in
     let e = c.in_err-last.field-0.0.error in
-    refusal_has c.from_residual-in_err-last.result c.in_err-last.field-0.0 _
+    failure_has c.from_residual-in_err-last.result c.in_err-last.field-0.0 _
     c.from_residual-in_err-last.ensures.1
     (only_on call.Read (g.S.Store.view c.args.files.now) (g.S.Store.view c.read_file.new.files)
     (g.S.Store.view c.read_file-2.new.files) e (IsNamedError asking.default_config e) (IsPairError asking e)
@@ -32,9 +32,9 @@ returns-in_err-last-clause-only g c =
 pub returns-in_err-first-clause-error : goal.returns-in_err-first-clause-error
 returns-in_err-first-clause-error g c =
     let old = g.S.Store.view c.args.files.now in
-    let asking = request_view c.args.asked.now in
+    let asking = request_view c.args.request.now in
     let e = c.in_err-first.field-0.0.error in
-    refusal_has c.from_residual.result c.in_err-first.field-0.0 _ c.from_residual.ensures.1
+    failure_has c.from_residual.result c.in_err-first.field-0.0 _ c.from_residual.ensures.1
     (wider (IsCallError call.Read old (g.S.Store.view c.read_file.new.files) e)
     (old.tells ≡ true → HasNoFile old.file_at c.args.current.now asking.config e)
     (old.tells ≡ true → LacksNamed old.file_at c.args.current.now asking e) (λ lacks t. inl (lacks t))
@@ -42,9 +42,9 @@ returns-in_err-first-clause-error g c =
 
 pub returns-in_err-first-clause-only : goal.returns-in_err-first-clause-only
 returns-in_err-first-clause-only g c =
-    let asking = request_view c.args.asked.now in
+    let asking = request_view c.args.request.now in
     let e = c.in_err-first.field-0.0.error in
-    refusal_has c.from_residual.result c.in_err-first.field-0.0 _ c.from_residual.ensures.1
+    failure_has c.from_residual.result c.in_err-first.field-0.0 _ c.from_residual.ensures.1
     (wider (IsCallError call.Read (g.S.Store.view c.args.files.now) (g.S.Store.view c.read_file.new.files) e)
     (IsNamedError asking.config e) (IsPairError asking e) (λ absent. inl absent) c.in_err-first.ensures.only)
 
@@ -52,7 +52,7 @@ pub returns-in_err-last-clause-counted : goal.returns-in_err-last-clause-counted
 returns-in_err-last-clause-counted g c =
     let old = g.S.Store.view c.args.files.now in
     let new = g.S.Store.view c.read_file-2.new.files in
-    refusal_has c.from_residual-in_err-last.result c.in_err-last.field-0.0 (λ e. CountsFault old new e)
+    failure_has c.from_residual-in_err-last.result c.in_err-last.field-0.0 (λ e. CountsFault old new e)
     c.from_residual-in_err-last.ensures.1
     (counted_on old (g.S.Store.view c.read_file.new.files) new c.in_err-last.field-0.0.error
     c.in_ok-first.ensures.store c.in_err-last.ensures.counted)

@@ -1,7 +1,7 @@
 use Rattle.std.proofs.Common.{◌≡◌, ◌⊎◌, subst, true, inl, inr}
 use Rattle.edit_base.specs.declared.errors.DeviceCall.TheVariants as call
 use Rattle.edit_sources.specs.Configured.{given}
-use Rattle.edit_steps.proofs.ErrorFields.{refusal_has}
+use Rattle.edit_steps.proofs.ErrorFields.{failure_has}
 use Rattle.edit_store.specs.Store.{OnlyReads, IsCallError}
 use Rattle.edit_steps.specs.RequestView.{request_view}
 use Rattle.edit_steps.specs.Causes.{IsUnconfigured, IsFailure}
@@ -18,16 +18,16 @@ use Rattle.edit_steps.proofs.upgrade_read.sources.read_sources.Goals as goal
 
 pub returns-in_err-target-clause-error : goal.returns-in_err-target-clause-error
 returns-in_err-target-clause-error g c =
-    refusal_has c.from_residual.result c.in_err-target.field-0.0 _ c.from_residual.ensures.1
-    (target_cause c.args.current.now (given c.args.cargo_home) (request_view c.args.asked.now)
+    failure_has c.from_residual.result c.in_err-target.field-0.0 _ c.from_residual.ensures.1
+    (target_cause c.args.current.now (given c.args.cargo_home) (request_view c.args.request.now)
     (g.S.Store.view c.args.files.now) (g.S.Store.view c.read_target.new.files)
     c.in_err-target.field-0.0.error c.in_err-target.ensures.error)
 
 pub returns-in_err-named-clause-error : goal.returns-in_err-named-clause-error
 returns-in_err-named-clause-error g c =
-    refusal_has c.from_residual-in_err-named.result c.in_err-named.field-0.0 _
+    failure_has c.from_residual-in_err-named.result c.in_err-named.field-0.0 _
     c.from_residual-in_err-named.ensures.1
-    (named_cause c.args.current.now (given c.args.cargo_home) (request_view c.args.asked.now)
+    (named_cause c.args.current.now (given c.args.cargo_home) (request_view c.args.request.now)
     (g.S.Store.view c.args.files.now) (g.S.Store.view c.read_target.new.files)
     (g.S.Store.view c.read_named.new.files) c.in_ok-target.target.workspace
     c.in_ok-target.target.inputs.items c.in_err-named.field-0.0.error c.in_ok-target.ensures.store
@@ -35,9 +35,9 @@ returns-in_err-named-clause-error g c =
 
 pub returns-in_err-configs-clause-error : goal.returns-in_err-configs-clause-error
 returns-in_err-configs-clause-error g c =
-    refusal_has c.from_residual-in_err-configs.result c.in_err-configs.field-0.0 _
+    failure_has c.from_residual-in_err-configs.result c.in_err-configs.field-0.0 _
     c.from_residual-in_err-configs.ensures.1
-    (config_cause c.args.current.now (given c.args.cargo_home) (request_view c.args.asked.now)
+    (config_cause c.args.current.now (given c.args.cargo_home) (request_view c.args.request.now)
     (g.S.Store.view c.args.files.now) (g.S.Store.view c.read_target.new.files)
     (g.S.Store.view c.read_named.new.files) (g.S.Store.view c.read_configurations.new.files)
     c.in_ok-target.target.workspace c.in_ok-target.target.inputs.items (pair_of c.in_ok-named.named)
@@ -52,9 +52,9 @@ returns-in_err-configs-clause-error g c =
 
 pub returns-in_err-index-clause-error : goal.returns-in_err-index-clause-error
 returns-in_err-index-clause-error g c =
-    refusal_has c.from_residual-in_err-index.result c.in_err-index.field-0.0 _
+    failure_has c.from_residual-in_err-index.result c.in_err-index.field-0.0 _
     c.from_residual-in_err-index.ensures.1
-    (index_cause c.args.current.now (given c.args.cargo_home) (request_view c.args.asked.now)
+    (index_cause c.args.current.now (given c.args.cargo_home) (request_view c.args.request.now)
     (g.S.Store.view c.args.files.now) (g.S.Store.view c.read_target.new.files)
     (g.S.Store.view c.read_named.new.files) (g.S.Store.view c.read_configurations.new.files)
     (g.S.Store.view c.read_index.new.files) c.in_ok-target.target.workspace
@@ -73,7 +73,7 @@ returns-clause-read g c = λ t.
     let all = g.S.Store.view c.read_configurations.new.files in
     let current = c.args.current.now in
     let home = given c.args.cargo_home in
-    let asking = request_view c.args.asked.now in
+    let asking = request_view c.args.request.now in
     let pair = pair_of c.in_ok-named.named in
     let configs = lists_for c.in_ok-configs.configs in
     let upto : OnlyReads old named
@@ -92,18 +92,18 @@ returns-clause-read g c = λ t.
 
 pub returns-in_err-target-clause-only : goal.returns-in_err-target-clause-only
 returns-in_err-target-clause-only g c =
-    let asking = request_view c.args.asked.now in
+    let asking = request_view c.args.request.now in
     let e = c.in_err-target.field-0.0.error in
-    refusal_has c.from_residual.result c.in_err-target.field-0.0 _ c.from_residual.ensures.1
+    failure_has c.from_residual.result c.in_err-target.field-0.0 _ c.from_residual.ensures.1
     (wider (IsFailure (g.S.Store.view c.args.files.now) (g.S.Store.view c.read_target.new.files) e)
     (IsTargetError c.args.current.now asking.metadata asking.manifest e)
     (IsSourceError c.args.current.now asking e) (λ error. inl error) c.in_err-target.ensures.only)
 
 pub returns-in_err-named-clause-only : goal.returns-in_err-named-clause-only
 returns-in_err-named-clause-only g c =
-    let asking = request_view c.args.asked.now in
+    let asking = request_view c.args.request.now in
     let e = c.in_err-named.field-0.0.error in
-    refusal_has c.from_residual-in_err-named.result c.in_err-named.field-0.0 _
+    failure_has c.from_residual-in_err-named.result c.in_err-named.field-0.0 _
     c.from_residual-in_err-named.ensures.1
     (part_error (g.S.Store.view c.args.files.now) (g.S.Store.view c.read_target.new.files)
     (g.S.Store.view c.read_named.new.files) c.args.current.now asking e (IsPairError asking e)
@@ -114,10 +114,10 @@ returns-in_err-configs-clause-only g c =
     let old = g.S.Store.view c.args.files.now in
     let mid = g.S.Store.view c.read_named.new.files in
     let e = c.in_err-configs.field-0.0.error in
-    refusal_has c.from_residual-in_err-configs.result c.in_err-configs.field-0.0 _
+    failure_has c.from_residual-in_err-configs.result c.in_err-configs.field-0.0 _
     c.from_residual-in_err-configs.ensures.1
     (part_error old mid (g.S.Store.view c.read_configurations.new.files) c.args.current.now
-    (request_view c.args.asked.now) e (IsConfigError e)
+    (request_view c.args.request.now) e (IsConfigError e)
     (reads-on old (g.S.Store.view c.read_target.new.files) mid c.in_ok-target.ensures.store
     c.in_ok-named.ensures.store) (λ error. inr (inr (inl error))) c.in_err-configs.ensures.only)
 
@@ -126,11 +126,11 @@ returns-in_err-index-clause-only g c =
     let old = g.S.Store.view c.args.files.now in
     let mid = g.S.Store.view c.read_named.new.files in
     let now = g.S.Store.view c.read_configurations.new.files in
-    let asking = request_view c.args.asked.now in
+    let asking = request_view c.args.request.now in
     let e = c.in_err-index.field-0.0.error in
     let upto : OnlyReads old mid = reads-on old (g.S.Store.view c.read_target.new.files) mid
     c.in_ok-target.ensures.store c.in_ok-named.ensures.store in
-    refusal_has c.from_residual-in_err-index.result c.in_err-index.field-0.0 _
+    failure_has c.from_residual-in_err-index.result c.in_err-index.field-0.0 _
     c.from_residual-in_err-index.ensures.1
     (part_error old now (g.S.Store.view c.read_index.new.files) c.args.current.now asking e
     (IsIndexError asking.index e) (reads-on old mid now upto c.in_ok-configs.ensures.store)
@@ -141,7 +141,7 @@ returns-in_err-configs-clause-counted g c =
     let old = g.S.Store.view c.args.files.now in
     let mid = g.S.Store.view c.read_named.new.files in
     let new = g.S.Store.view c.read_configurations.new.files in
-    refusal_has c.from_residual-in_err-configs.result c.in_err-configs.field-0.0 (λ e. CountsFault old new e)
+    failure_has c.from_residual-in_err-configs.result c.in_err-configs.field-0.0 (λ e. CountsFault old new e)
     c.from_residual-in_err-configs.ensures.1
     (counted_on old mid new c.in_err-configs.field-0.0.error
     (reads-on old (g.S.Store.view c.read_target.new.files) mid c.in_ok-target.ensures.store
@@ -155,7 +155,7 @@ returns-in_err-index-clause-counted g c =
     let new = g.S.Store.view c.read_index.new.files in
     let upto : OnlyReads old mid = reads-on old (g.S.Store.view c.read_target.new.files) mid
     c.in_ok-target.ensures.store c.in_ok-named.ensures.store in
-    refusal_has c.from_residual-in_err-index.result c.in_err-index.field-0.0 (λ e. CountsFault old new e)
+    failure_has c.from_residual-in_err-index.result c.in_err-index.field-0.0 (λ e. CountsFault old new e)
     c.from_residual-in_err-index.ensures.1
     (counted_on old now new c.in_err-index.field-0.0.error (reads-on old mid now upto
     c.in_ok-configs.ensures.store) c.in_err-index.ensures.counted)

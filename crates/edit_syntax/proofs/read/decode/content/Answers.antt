@@ -6,9 +6,9 @@ use Rattle.edit_syntax.proofs.read.decode.content.Goals as goal
 pub returns : goal.returns
 returns c before content rest said spelled from to says =
     let text = c.args.text.now in
-    let kind = c.args.mark.kind in
+    let kind = c.args.token.kind in
     let d = c.delimiter_len-width.result in
-    let range = content_range kind before content rest (length text) c.args.mark.from c.args.mark.to d
+    let range = content_range kind before content rest (length text) c.args.token.from c.args.token.to d
     (ap length spelled) from to c.delimiter_len-width.ensures in
     let i = c.saturating_sub.result + d in
     let j = c.saturating_sub-end.result in

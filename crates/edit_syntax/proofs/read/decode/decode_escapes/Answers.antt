@@ -59,8 +59,8 @@ pieces-preserved c =
           c.in_ok-push_str.ensures.bytes in
           turn ps rest (string_bytes c.pieces.out) c.front.result.now tail
           (string_bytes c.push_piece.new.out) next len l front back c.behind-tail.utf8 some
-          (λ p r marked fine stops e.
-          let t = (c.in_ok-len.ensures {u = tt}).says p r marked fine stops (here ∙ e) in
+          (λ p r escaped fine stops e.
+          let t = (c.in_ok-len.ensures {u = tt}).says p r escaped fine stops (here ∙ e) in
           (t.0 ∙ ap (λ (b : List ℕ). b ++ decoded_piece quote p) out, t.1))
           c.behind-rest.ensures.text,
     )

@@ -2,7 +2,7 @@ use Rattle.std.proofs.Common.{◌≡◌, ◌≤◌, length, ap, ◌∙◌, arith
 use Rattle.std.specs.List.{prefix_len}
 use Rattle.std.proofs.lemmas.Bool.Decides.{nat_tests}
 use Rattle.edit_syntax.specs.Characters.{is_unescaped}
-use Rattle.edit_syntax.proofs.Kept.{plain_basic}
+use Rattle.edit_syntax.proofs.DecodedSpans.{plain_basic}
 use Rattle.edit_syntax.proofs.OwnContents.{own_basic}
 use Rattle.edit_syntax.proofs.read.decode.is_plain.Goals as goal
 

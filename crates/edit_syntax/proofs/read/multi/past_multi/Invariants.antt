@@ -5,5 +5,5 @@ use Rattle.edit_syntax.proofs.read.multi.past_multi.Given as goal
 
 -- where the string ends from here is where it ends
 abbrev pub invariant-pieces : goal.invariant-pieces
-invariant-pieces l = rest_of (body_at l.mark (length l.s - l._piece) l.few l.rest)
-    ≡ rest_of (multi_at l.mark l.s)
+invariant-pieces l = rest_of (body_at l.delimiter_byte (length l.s - l._piece) l.few l.rest)
+    ≡ rest_of (multi_at l.delimiter_byte l.s)

@@ -10,7 +10,7 @@ returns-in-None c = record {
       let text = c.args.text.now in
       let top : last_of c.args.self.now.tables.items ≡ Some c.in-Some.number =
       ap last_of (sym c.deref.ensures.value) ∙ sym c.last.ensures.value ∙ sym c.copied.ensures ∙ c.in-Some.is in
-      if_ok_map c.add_element.result (c.add_element.ensures.added text st.spots w.holds)
+      if_ok_map c.add_element.result (c.add_element.ensures.added text st.models w.holds)
       (λ r puts. settles_element c.args.self.now _ st
       (shape_of text c.args.content) c.args.span c.in-Some.number r w top c.in-None.is puts refl refl refl);
 }

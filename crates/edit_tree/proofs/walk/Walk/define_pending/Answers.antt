@@ -20,12 +20,12 @@ returns-in_default-2 c = record {
       let text = c.args.text.now in
       let name = sym w.name ∙ ap (option_map (bytes_of text)) (sym c.take.ensures.value ∙ c.in-Some.is) in
       let none : HasNodeAt text c.follow_fronts.new.nodes.items
-      (fronts_followed st.spots c.args.number (map (bytes_of text) c.deref.result.now)
+      (fronts_followed st.models c.args.number (map (bytes_of text) c.deref.result.now)
       (front_shape c.is_dotted_inline-is_inline.result) c.args.front) None =
       subst (HasNodeAt text c.follow_fronts.new.nodes.items
-      (fronts_followed st.spots c.args.number (map (bytes_of text) c.deref.result.now)
+      (fronts_followed st.models c.args.number (map (bytes_of text) c.deref.result.now)
       (front_shape c.is_dotted_inline-is_inline.result) c.args.front)) c.in_default-2.is
-      ((c.in_ok-table.ensures {u = tt}).made st.spots w.holds) in
+      ((c.in_ok-table.ensures {u = tt}).made st.models w.holds) in
       settled_unreached st c.args.number c.args.front (shape_of text c.args.content) c.args.taken c.args.span
       (bytes_of text c.in-Some.name) name
       (reach_of text c.follow_fronts.new.nodes.items st c.args.number
@@ -40,12 +40,12 @@ returns c = record {
       let text = c.args.text.now in
       let name = sym w.name ∙ ap (option_map (bytes_of text)) (sym c.take.ensures.value ∙ c.in-Some.is) in
       let some : HasNodeAt text c.follow_fronts.new.nodes.items
-      (fronts_followed st.spots c.args.number (map (bytes_of text) c.deref.result.now)
+      (fronts_followed st.models c.args.number (map (bytes_of text) c.deref.result.now)
       (front_shape c.is_dotted_inline-is_inline.result) c.args.front) (Some c.in-Some-2.table) =
       subst (HasNodeAt text c.follow_fronts.new.nodes.items
-      (fronts_followed st.spots c.args.number (map (bytes_of text) c.deref.result.now)
+      (fronts_followed st.models c.args.number (map (bytes_of text) c.deref.result.now)
       (front_shape c.is_dotted_inline-is_inline.result) c.args.front)) c.in-Some-2.is
-      ((c.in_ok-table.ensures {u = tt}).made st.spots w.holds) in
+      ((c.in_ok-table.ensures {u = tt}).made st.models w.holds) in
       let r = reach_of text c.follow_fronts.new.nodes.items st c.args.number
       (map (bytes_of text) c.deref.result.now) c.is_dotted_inline-is_inline.result c.args.front
       (Some c.in-Some-2.table)

@@ -4,7 +4,7 @@ use Rattle.edit_tree.specs.declared.nodes.Node.{Node}
 use Rattle.edit_tree.specs.declared.nodes.DefinedBy.TheVariants as taken
 use Rattle.edit_tree.specs.Nodes.{RepresentsNodes, bytes_of, section}
 use Rattle.edit_tree.specs.Walk.{model_node_at, start}
-use Rattle.edit_tree.proofs.SpotNodes.{holds_push}
+use Rattle.edit_tree.proofs.ModelNodes.{holds_push}
 use Rattle.edit_tree.proofs.walk.Walk.new.Goals as goal
 
 -- src/walk.rt:31:5
@@ -21,9 +21,9 @@ returns c =
     ∙ ap (λ (nodes : List Node). nodes ++ root ∷ []) (c.in_ok-nodes.ensures {u = tt}).items in
     record {
       root = λ text. record {
-        holds = subst (λ (nodes : List Node). RepresentsNodes text nodes start.spots) (sym items)
+        holds = subst (λ (nodes : List Node). RepresentsNodes text nodes start.models) (sym items)
             (holds_push [] [] root (model_node_at [] section taken.Header None)
-            (record { len = refl; each = λ n node spot is absurd_is. absurd cc }) record {
+            (record { len = refl; each = λ n node model is absurd_is. absurd cc }) record {
               shape = refl;
               taken = refl;
               steps = refl;

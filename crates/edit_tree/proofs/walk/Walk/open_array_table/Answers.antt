@@ -19,9 +19,9 @@ returns-clause-goes c st w =
     }) st c.in-Some.number c.in-Some-2.element
     (subst (HasDefinedState text middle (pending_defined st 0 Super sections Array None)) c.in-Some.is
     ((c.in_ok-number.ensures {u = tt}).goes st w))
-    (λ spots holds. subst
-    (HasNodeAt text c.add_element.new.nodes.items (element_added spots c.in-Some.number section Element None))
-    c.in-Some-2.is ((c.in_ok-element.ensures {u = tt}).added text spots holds)) refl refl refl
+    (λ models holds. subst
+    (HasNodeAt text c.add_element.new.nodes.items (element_added models c.in-Some.number section Element None))
+    c.in-Some-2.is ((c.in_ok-element.ensures {u = tt}).added text models holds)) refl refl refl
     ((c.in_ok-open_only.ensures {u = tt}).turned text)
 
 pub returns-in_default-clause-goes : goal.returns-in_default-clause-goes
@@ -37,6 +37,6 @@ returns-in_default-2-clause-goes c st w =
     element_refused text c.define_pending.new.self c.add_element.new.nodes.items st c.in-Some.number
     (subst (HasDefinedState text c.define_pending.new.self (pending_defined st 0 Super sections Array None)) c.in-Some.is
     ((c.in_ok-number.ensures {u = tt}).goes st w))
-    (λ spots holds. subst
-    (HasNodeAt text c.add_element.new.nodes.items (element_added spots c.in-Some.number section Element None))
-    c.in_default-2.is ((c.in_ok-element.ensures {u = tt}).added text spots holds))
+    (λ models holds. subst
+    (HasNodeAt text c.add_element.new.nodes.items (element_added models c.in-Some.number section Element None))
+    c.in_default-2.is ((c.in_ok-element.ensures {u = tt}).added text models holds))

@@ -1,7 +1,7 @@
 use Rattle.std.proofs.Common.{Some, inl, inr, refl, ⊎_elim}
 use Rattle.edit_sources.specs.Configured.{given}
 use Rattle.edit_upgrade.proofs.AddressLemmas.{one_resolved}
-use Rattle.edit_upgrade.proofs.PlannedLemmas.{refusal-has}
+use Rattle.edit_upgrade.proofs.PlannedLemmas.{failure-has}
 use Rattle.edit_upgrade.proofs.addresses.Addresses.ensure_resolved.Goals as goal
 
 pub returns-clause-are : goal.returns-clause-are
@@ -16,7 +16,7 @@ returns-clause-are c = λ configs are.
 
 pub returns-in_err-url-clause-error : goal.returns-in_err-url-clause-error
 returns-in_err-url-clause-error c =
-    refusal-has c.from_residual-in_err-url.result c.in_err-url.field-0.0 _ c.from_residual-in_err-url.ensures.1
+    failure-has c.from_residual-in_err-url.result c.in_err-url.field-0.0 _ c.from_residual-in_err-url.ensures.1
     (⊎_elim (λ memory. inl memory)
     (λ none. inr (λ configs are. none configs (c.in_ok-definitions.ensures.defines configs are)))
     c.in_err-url.ensures.error)

@@ -27,6 +27,6 @@ spread-more {A} {B} {C} {E} f g h xs i x first old new low is n e =
 pub packages-preserved : goal.packages-preserved
 packages-preserved c =
     spread-more package_view (λ p. p.now) package_args c.args.packages.now c.packages.package-index
-    c.package-item.result (args_view c.args.words.now.items) (args_view c.packages.words.items)
-    (args_view c.add_package.new.words.items) c.packages-test.true c.package-item.is
+    c.package-item.result (args_view c.args.args.now.items) (args_view c.packages.args.items)
+    (args_view c.add_package.new.args.items) c.packages-test.true c.package-item.is
     c.in_ok-add_package.ensures c.packages.invariant

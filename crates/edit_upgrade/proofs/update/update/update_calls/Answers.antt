@@ -9,14 +9,14 @@ use Rattle.edit_upgrade.proofs.update.update.update_calls.Goals as goal
 
 pub returns-clause-calls : goal.returns-clause-calls
 returns-clause-calls c =
-    let asked = call_options c.args.plan.now c.args.options.now in
-    let due : is_due asked ≡ true = search rules in
+    let due_options = call_options c.args.plan.now c.args.options.now in
+    let due : is_due due_options ≡ true = search rules in
     let manifest = c.as_str-2.ensures.value ∙ c.in_ok-manifest.ensures.text
     ∙ ap (λ root. joined root (codes "Cargo.toml")) c.as_str.ensures.value in
     let packages = packages_view c.args.workspace.now.packages.items in
     let path = joined (string_bytes c.args.workspace.now.root) (codes "Cargo.toml") in
     c.in_ok-calls.ensures
-    ∙ ap (λ (ps : List Package). calls_for c.as_str-2.result.now asked (packages_view ps))
+    ∙ ap (λ (ps : List Package). calls_for c.as_str-2.result.now due_options (packages_view ps))
     c.deref-2.ensures.value
-    ∙ ap (λ m. calls_for m asked packages) manifest
-    ∙ sym (ap (λ (b : Bool). cond b (calls_for path asked packages) []) due)
+    ∙ ap (λ m. calls_for m due_options packages) manifest
+    ∙ sym (ap (λ (b : Bool). cond b (calls_for path due_options packages) []) due)

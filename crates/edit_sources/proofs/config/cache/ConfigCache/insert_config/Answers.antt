@@ -1,14 +1,14 @@
 use Rattle.std.proofs.Common.{Some, inl, inr, string_bytes, subst, sym}
 use Rattle.std.proofs.lemmas.Map.Text.{btree_map_updates_text}
 use Rattle.edit_sources.specs.ConfigurationFiles.{IsReadOf, file_in}
-use Rattle.edit_sources.proofs.CachedConfigLemmas.{kept_more, searched_more}
+use Rattle.edit_sources.proofs.CachedConfigLemmas.{cached_more, searched_more}
 use Rattle.edit_sources.proofs.config.cache.ConfigCache.insert_config.Goals as goal
 
 pub returns-clause-cached : goal.returns-clause-cached
-returns-clause-cached c = λ seen kept read. kept_more seen c.args.self.now (record { found = c.insert.new.self })
+returns-clause-cached c = λ seen are_cached read. cached_more seen c.args.self.now (record { found = c.insert.new.self })
     (string_bytes c.in_ok-place.place) c.args.found
     (btree_map_updates_text (string_bytes c.in_ok-place.place) c.args.self.now.found c.insert.new.self
-    (Some c.args.found) (c.in_ok-insert.ensures.updates)) kept
+    (Some c.args.found) (c.in_ok-insert.ensures.updates)) are_cached
     (λ tells. subst (λ p. IsReadOf (file_in seen.file_at p) c.args.found) (sym c.in_ok-place.ensures.ok)
     (read tells))
 

@@ -16,11 +16,11 @@ returns-in-Err-search_folders-clause-error g c =
 
 pub returns-in-Err-search_folders-clause-first : goal.returns-in-Err-search_folders-clause-first
 returns-in-Err-search_folders-clause-first g c =
-    ⊎_elim (λ memory. inl memory) (λ other. inr (⊎_elim (λ failed. inl failed) (λ stops. inr (λ kept tells. record {
+    ⊎_elim (λ memory. inl memory) (λ other. inr (⊎_elim (λ failed. inl failed) (λ stops. inr (λ are_cached tells. record {
       places = map string_bytes c.deref.result.now;
       searched = subst (λ ps. IsSearched c.args.manifest_path.now (given c.args.cargo_home) (map string_bytes ps))
           (sym c.deref.ensures.value) c.in-Ok.ensures.searched;
-      first = stops kept tells;
+      first = stops are_cached tells;
     })) other)) c.in-Err-search_folders.ensures.first
 
 pub returns-in-Ok-search_folders-clause-searched : goal.returns-in-Ok-search_folders-clause-searched

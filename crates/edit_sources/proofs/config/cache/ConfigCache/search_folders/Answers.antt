@@ -7,7 +7,7 @@ use Rattle.edit_sources.proofs.FileLemmas.{failed_later, first_malformed, place_
 use Rattle.edit_sources.proofs.config.cache.ConfigCache.search_folders.Goals as goal
 
 pub returns-in-Err-clause-preserved : goal.returns-in-Err-clause-preserved
-returns-in-Err-clause-preserved g c = λ kept. c.search_folder.ensures.preserved (c.loop-place.invariant.kept kept)
+returns-in-Err-clause-preserved g c = λ are_cached. c.search_folder.ensures.preserved (c.loop-place.invariant.are_cached are_cached)
 
 pub returns-in-Err-clause-error : goal.returns-in-Err-clause-error
 returns-in-Err-clause-error g c =
@@ -26,12 +26,12 @@ returns-in-Err-clause-first g c =
     let before = map string_bytes (take c.loop-place.place-index c.args.places.now) in
     ⊎_elim (λ memory. inl memory) (λ other. inr (⊎_elim
     (λ failed. inl (failed_later _ _ _ _ store.later failed))
-    (λ fails. inr (λ kept t. first_malformed (g.S.Store.view c.args.store.now) (g.S.Store.view c.loop-place.store)
+    (λ fails. inr (λ are_cached t. first_malformed (g.S.Store.view c.args.store.now) (g.S.Store.view c.loop-place.store)
     c.args.places.now c.loop-place.place-index c.place-item.result c.as_str.result.now
     (found_in c.loop-place.self before) c.in-Err.error c.loop-place-test.true c.place-item.is
     c.as_str.ensures.value store.tells store.files
     (found_read (g.S.Store.view c.args.store.now) (g.S.Store.view c.loop-place.store) c.loop-place.self before
-    (found_in c.loop-place.self before) store (c.loop-place.invariant.kept kept)
+    (found_in c.loop-place.self before) store (c.loop-place.invariant.are_cached are_cached)
     c.loop-place.invariant.searched refl t) fails t))
     other)) c.in-Err.ensures.error
 
@@ -45,7 +45,7 @@ loop-place-preserved g c =
         writes = c.search_folder.ensures.store.writes ∙ store.writes;
         later = omega (arith, store.later, c.search_folder.ensures.store.later);
       };
-      kept = λ kept. c.search_folder.ensures.preserved (c.loop-place.invariant.kept kept);
+      are_cached = λ are_cached. c.search_folder.ensures.preserved (c.loop-place.invariant.are_cached are_cached);
       searched = all_searched c.loop-place.self c.search_folder.new.self c.args.places.now
           c.loop-place.place-index c.place-item.result c.as_str.result.now c.loop-place-test.true
           c.place-item.is c.as_str.ensures.value c.search_folder.ensures.others

@@ -7,6 +7,6 @@ use Rattle.edit_sources.proofs.config.cache.ConfigCache.search_folders.Given as 
 abbrev pub invariant-loop-place : goal.invariant-loop-place
 invariant-loop-place g l = record {
   store : OnlyReads (g.S.Store.view l.initial.store) (g.S.Store.view l.store);
-  kept : AreCached (g.S.Store.view l.initial.store) l.initial.self → AreCached (g.S.Store.view l.store) l.self;
+  are_cached : AreCached (g.S.Store.view l.initial.store) l.initial.self → AreCached (g.S.Store.view l.store) l.self;
   searched : All (IsSearchedIn l.self) (map string_bytes (take l.place-index l.places));
 }

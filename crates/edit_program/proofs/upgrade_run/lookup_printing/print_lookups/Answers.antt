@@ -1,0 +1,61 @@
+use Rattle.std.proofs.Common.{subst, sym}
+use Rattle.std.specs.Io.KnownBytes.{Appends}
+use Rattle.std.specs.Prelude.{string_bytes}
+use Rattle.edit_sources.specs.Configured.{given}
+use Rattle.edit_steps.proofs.ErrorFields.{failure_has}
+use Rattle.edit_steps.specs.Causes.{IsReadCause}
+use Rattle.edit_steps.specs.Sources.{AreRead}
+use Rattle.edit_program.specs.UpgradeCauses.{IsLookupsCause}
+use Rattle.edit_metadata.proofs.InputLemmas.{reads-on}
+use Rattle.edit_program.proofs.LookupLemmas.{unplanned_cause, unread_cause}
+use Rattle.edit_program.proofs.upgrade_run.lookup_printing.print_lookups.Goals as goal
+
+pub returns-in_err-sources-clause-why : goal.returns-in_err-sources-clause-why
+returns-in_err-sources-clause-why g c =
+    let args = c.args.args.now in
+    let current = c.args.current.now in
+    let home = given c.args.cargo_home in
+    let old = g.S.Store.view c.args.files.now in
+    let new = g.S.Store.view c.read_sources.new.files in
+    let e = c.in_err-sources.field-0.0 in
+    failure_has c.from_residual.result e (λ error. IsLookupsCause args current home old new error)
+    c.from_residual.ensures.1
+    (unread_cause args current home old new e.error
+    (subst (λ a. IsReadCause current home a old new e.error) c.to_lookup_request.ensures
+    c.in_err-sources.ensures.error))
+
+pub returns-in-Err-clause-why : goal.returns-in-Err-clause-why
+returns-in-Err-clause-why g c =
+    let args = c.args.args.now in
+    let current = c.args.current.now in
+    let home = given c.args.cargo_home in
+    let old = g.S.Store.view c.args.files.now in
+    let new = g.S.Store.view c.explain_upgrade.new.files in
+    let s = c.in_ok-sources.sources in
+    subst (λ e. IsLookupsCause args current home old new e) (sym c.explain_upgrade.ensures.same)
+    (unplanned_cause args current home old new s c.in-Err.error
+    (λ t. subst (λ a. AreRead old.file_at current home a s) c.to_lookup_request.ensures
+    (c.in_ok-sources.ensures.read t))
+    c.in-Err.ensures.error)
+
+pub returns-in-Err-clause-reads : goal.returns-in-Err-clause-reads
+returns-in-Err-clause-reads g c =
+    reads-on (g.S.Store.view c.args.files.now) (g.S.Store.view c.read_sources.new.files)
+    (g.S.Store.view c.explain_upgrade.new.files) c.in_ok-sources.ensures.store c.explain_upgrade.ensures.reads
+
+pub returns-clause-done : goal.returns-clause-done
+returns-clause-done g c = λ t.
+    let current = c.args.current.now in
+    let home = given c.args.cargo_home in
+    let old = g.S.Store.view c.args.files.now in
+    let s = c.in_ok-sources.sources in
+    record {
+      sources = s;
+      text = string_bytes c.in-Ok.lines;
+      read = subst (λ a. AreRead old.file_at current home a s) c.to_lookup_request.ensures
+          (c.in_ok-sources.ensures.read t);
+      lines = c.in-Ok.ensures.lines;
+      shows = subst (Appends (g.O.Write.contents c.args.out.now)
+          (g.O.Write.contents c.shell_write_stdout.new.out)) c.as_str.ensures.value
+          c.in_ok-shell_write_stdout.ensures.bytes;
+    }
