@@ -91,7 +91,8 @@ pub fn fetch_plan<S: Store>(
         × SameFiles (S.view store.old).file_at (S.view store.new).file_at)
         (λ n. (S.view store.old).tells ≡ true → IsPlanned (S.view store.old).file_at
         (S.view store.new).file_at plan.now text.now n)) }
-    ensures others { HasSameFilesElsewhere plan.now.room.now (S.view store.old).file_at (S.view store.new).file_at }
+    ensures others { HasSameFilesElsewhere plan.now.room.now
+        (S.view store.old).file_at (S.view store.new).file_at }
     ensures tells { (S.view store.new).tells ≡ (S.view store.old).tells }
     ensures error { IfErr result (λ e. IsMemory e
         ⊎ HasFailedIn (S.view store.old).faults (S.view store.new).faults e) }

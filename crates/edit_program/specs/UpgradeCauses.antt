@@ -22,7 +22,8 @@ use Rattle.edit_program.specs.declared.upgrade_run.upgrade_args.UpgradeArgs.{Upg
 use Rattle.edit_program.specs.DeliveryCauses.{IsStopped}
 
 -- the given files were read, and planning over their index fails
-pub record HasNoPlan (options : Options) (view : Sources → IndexView) (request : RequestView) (current : List ℕ)
+pub record HasNoPlan (options : Options) (view : Sources → IndexView) (request : RequestView)
+    (current : List ℕ)
     (home : Option (List ℕ)) (files : Files) (e : Error) : Type 0 where
   pub sources : Sources
   pub read : AreRead files current home request sources

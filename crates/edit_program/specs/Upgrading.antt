@@ -92,5 +92,6 @@ IsUpgraded due Prints Reports args run =
 -- an upgrade failed at a write, or after one
 abbrev pub IsBroken : (List ℕ → Type 0) → UpgradeArgs → Run → Type 0
 IsBroken Prints args run =
-    IsPlannedTo (λ d. IsDeliveryInterrupted Prints d run.old run.new) args run.current run.home run.index_files
+    IsPlannedTo (λ d. IsDeliveryInterrupted Prints d run.old run.new) args
+    run.current run.home run.index_files
     run.old.file_at

@@ -98,7 +98,8 @@ fn rust_choice<'a>(
 /// The options of an upgrade, from parsed arguments of `upgrade`.
 fn options_of<'a>(alloc: Global, matches: &ArgMatches<'a>) -> Result<Options, ArgsError<'a>>
     ensures options { IfOk result (HasOptions (rows_of (found_of matches.now))) }
-    ensures error { IfErr result (λ e. e ≢ parse_error.Memory → HasBadStatus (rows_of (found_of matches.now))) }
+    ensures error { IfErr result (λ e. e ≢ parse_error.Memory
+        → HasBadStatus (rows_of (found_of matches.now))) }
 {
     Ok(Options {
         compatible: status_of(matches, "compatible")?,

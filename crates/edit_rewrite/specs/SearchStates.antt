@@ -44,7 +44,8 @@ HeadIs s head = (is_table_header_next head ≡ is_table_header s)
     × (is_element_header_next head ≡ is_element_header s)
 
 -- the tokens and the offsets are those of the statement
-pub record IsTokenized (bytes : List ℕ) (tokens : List SyntaxToken) (s : PlacedStatement) (offsets : StatementOffsets) : Type 0 where
+pub record IsTokenized (bytes : List ℕ) (tokens : List SyntaxToken) (s : PlacedStatement)
+    (offsets : StatementOffsets) : Type 0 where
   pub are_parts : AreParts bytes (parts (key_of s).0 (key_of s).1) tokens
   pub head : HeadIs s.statement (kind_after_key tokens)
   pub line : offsets.line ≡ length s.line

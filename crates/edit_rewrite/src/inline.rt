@@ -69,7 +69,8 @@ fn with_alone(
     to: usize,
     member: &str,
 ) -> CargoResult<String>
-    ensures text { (s t : List ℕ) → IsSuffix text.now s → IsSuffix text.now t → from ≡ length s → to ≡ length t
+    ensures text { (s t : List ℕ) → IsSuffix text.now s → IsSuffix text.now t
+        → from ≡ length s → to ≡ length t
         → IfOk result (λ r. string_bytes r ≡ with_splice text.now
         (record { from = s; to = t; now = codes " " ++ (member.now ++ codes " ") })) }
     ensures error { IfErr result IsMemory }

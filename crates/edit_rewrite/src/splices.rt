@@ -29,7 +29,8 @@ pub(crate) fn with_swap(
     to: usize,
     now: &str,
 ) -> CargoResult<String>
-    ensures text { (s t : List ℕ) → IsSuffix text.now s → IsSuffix text.now t → from ≡ length s → to ≡ length t
+    ensures text { (s t : List ℕ) → IsSuffix text.now s → IsSuffix text.now t
+        → from ≡ length s → to ≡ length t
         → IfOk result (λ r. string_bytes r
         ≡ with_splice text.now (record { from = s; to = t; now = now.now })) }
     ensures error { IfErr result IsMemory }

@@ -57,7 +57,8 @@ fn bump_of<'a>(
     ensures versions { IsReadableTarget (target_of target.now) → IsReadable (member_of found.entry).version
         → IfOk result (λ o. IfSome o (λ b. IsVersion (bump_view b).next)) }
     ensures error { IfErr result (IsUnbumped (bump (target_of target.now)
-        (selection_view selection.now).metadata (member_of found.entry).version) (member_of found.entry).version) }
+        (selection_view selection.now).metadata (member_of found.entry).version)
+        (member_of found.entry).version) }
 {
     let metadata = metadata_of(selection);
     let next = target.bump(alloc, &found.package.version, metadata)?;
@@ -82,7 +83,8 @@ fn push_bump<'a>(
     bumps: &mut Vec<Bump<'a>>,
 ) -> CargoResult<()>
     ensures ok { OnOk result (bumps_view bumps.new.items ≡ bumps_view bumps.old.items
-        ++ option_to_list (bump_of (target_of target.now) (selection_view selection.now) (member_of found.entry))) }
+        ++ option_to_list (bump_of (target_of target.now) (selection_view selection.now)
+        (member_of found.entry))) }
     ensures bumpable { OnOk result (IsBumpable (bump (target_of target.now)
         (selection_view selection.now).metadata (member_of found.entry).version)) }
     ensures versions { OnOk result (IsReadableTarget (target_of target.now)

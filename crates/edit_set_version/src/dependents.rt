@@ -41,7 +41,8 @@ fn raised_dependent<'a>(
       next = (numbered_view bump.entry).1;
     }) }
     ensures risen { IfOk result HasRaisedText }
-    ensures error { IfErr result (IsUpgradeError (upgrade_of (string_bytes entry.text) (numbered_view bump.entry).1)
+    ensures error { IfErr result (IsUpgradeError
+        (upgrade_of (string_bytes entry.text) (numbered_view bump.entry).1)
         (string_bytes entry.text)) }
 {
     let risen = upgrade_requirement(alloc, entry.text.as_str(), bump.next)?;

@@ -108,7 +108,8 @@ impl Selection {
     pub fn check_names(&self, alloc: Global, workspace: &Workspace) -> CargoResult<()>
         ensures found { OnOk result (missing (selection_view self.now)
             (names_of (workspace_view workspace.now).packages) ≡ []) }
-        ensures error { IfErr result (IsMissingNamesError (selection_view self.now) (workspace_view workspace.now)) }
+        ensures error { IfErr result
+            (IsMissingNamesError (selection_view self.now) (workspace_view workspace.now)) }
     {
         let mut known = member_names(alloc, &workspace.packages)?;
         let names = missing_names(alloc, &mut known, &self.packages)?;

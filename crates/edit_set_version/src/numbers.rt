@@ -32,7 +32,8 @@ fn add_bump<'a>(
 ) -> CargoResult<()>
     ensures ok { OnOk result ((q : List ℕ) → numbered_at numbers.new (folder_at_path q)
         ≡ option_or (numbered_at numbers.old (folder_at_path q))
-        (if same_folder (folder_of path.now) (folder_at_path q) then Some (numbered_view bump.entry) else None)) }
+        (if same_folder (folder_of path.now) (folder_at_path q)
+        then Some (numbered_view bump.entry) else None)) }
     ensures error { IfErr result IsMemory }
 {
     let folder = folder_of(alloc, path)?;

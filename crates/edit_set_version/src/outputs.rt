@@ -191,7 +191,8 @@ fn output_of(
     requires numbers { HasFirstBumps (bumps_view writing.now.bumps.now) writing.now.numbers.now }
     requires apart { AreApart (bumps_view writing.now.bumps.now) }
     requires read { IsReadOf input.now manifest.now }
-    requires shared { CanShare writing.now.root.now (shared_version_view writing.now.shared) (path_of input.now)
+    requires shared { CanShare writing.now.root.now (shared_version_view writing.now.shared)
+        (path_of input.now)
         (tree_of manifest.now.document) }
     ensures output { IfOk result (λ o. AreOutputsOf writing.now.root.now
         (shared_version_view writing.now.shared)
@@ -225,7 +226,8 @@ fn push_output(
     requires numbers { HasFirstBumps (bumps_view writing.now.bumps.now) writing.now.numbers.now }
     requires apart { AreApart (bumps_view writing.now.bumps.now) }
     requires read { IsReadOf input.now manifest.now }
-    requires shared { CanShare writing.now.root.now (shared_version_view writing.now.shared) (path_of input.now)
+    requires shared { CanShare writing.now.root.now (shared_version_view writing.now.shared)
+        (path_of input.now)
         (tree_of manifest.now.document) }
     ensures output { OnOk result ((own : List OutputSeen)
         × (outputs.new.items ≡ outputs.old.items ++ own)
@@ -257,7 +259,8 @@ pub(crate) fn outputs_of(
     requires apart { AreApart (bumps_view writing.now.bumps.now) }
     requires read { AllZip IsReadOf inputs.now manifests.now }
     requires distinct { HaveOwnPaths inputs.now }
-    requires shared { HasSharedVersion inputs.now writing.now.root.now (shared_version_view writing.now.shared) }
+    requires shared { HasSharedVersion inputs.now writing.now.root.now
+        (shared_version_view writing.now.shared) }
     ensures outputs { IfOk result (λ os. All (HasOutputsBy writing.now.root.now
         (shared_version_view writing.now.shared) (bumps_view writing.now.bumps.now) os.items) inputs.now) }
     ensures in_order { IfOk result (λ os. OutputsInOrder inputs.now os.items) }

@@ -82,7 +82,8 @@ pub(crate) fn plan_lines(
     ensures ok { IfOk result (λ v. map report_line_view v.items ≡ shared_lines
         (option_map (λ v. parts_of v.now) old.entry) (option_map (λ v. parts_of v.now) new.entry)
         ++ flat_map (lines_of (project_view project.now)) (bumps_view bumps.now)) }
-    ensures rise { OnOk result (All (AllRiseIn (bumps_view bumps.now)) (manifests (project_view project.now))) }
+    ensures rise { OnOk result
+        (All (AllRiseIn (bumps_view bumps.now)) (manifests (project_view project.now))) }
     ensures error { IfErr result (λ e. IsMemory e
         ⊎ AreUnraised (bumps_view bumps.now) (manifests (project_view project.now)) e) }
 {

@@ -145,7 +145,8 @@ pub(crate) fn lists_of(
     ensures ok { IfOk result (λ ls. line_lists_view ls.items
         ≡ with_manifests (bumps_view bumps.now) (manifests (project_view project.now)) 0
         (map (λ b. bump_line_view b ∷ []) (bumps_view bumps.now))) }
-    ensures rise { OnOk result (All (AllRiseIn (bumps_view bumps.now)) (manifests (project_view project.now))) }
+    ensures rise { OnOk result
+        (All (AllRiseIn (bumps_view bumps.now)) (manifests (project_view project.now))) }
     ensures error { IfErr result (λ e. IsMemory e
         ⊎ AreUnraised (bumps_view bumps.now) (manifests (project_view project.now)) e) }
 {

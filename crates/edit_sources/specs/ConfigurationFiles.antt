@@ -118,7 +118,8 @@ pub record IsFirstMalformed (files : Files) (places : List (List ℕ)) (e : Erro
   pub fails : FileFails true (IsConfigPath place) (file_in files place) e
 
 -- the first malformed file of a manifest's configurations (own)
-pub record StopsAtConfig (files : Files) (manifest : List ℕ) (home : Option (List ℕ)) (e : Error) : Type 0 where
+pub record StopsAtConfig (files : Files) (manifest : List ℕ) (home : Option (List ℕ)) (e : Error)
+    : Type 0 where
   pub places : List (List ℕ)
   pub searched : IsSearched manifest home places
   pub first : IsFirstMalformed files places e

@@ -18,7 +18,8 @@ pub record AreMetadataRead (files : Files) (current named : List ℕ) (w : Works
   pub say : AreMetadata bytes w
 
 -- a workspace was read: its metadata, and its manifests
-pub record IsWorkspaceRead (files : Files) (current named : List ℕ) (options : RustOptions) (w : WorkspaceModel)
+pub record IsWorkspaceRead (files : Files) (current named : List ℕ) (options : RustOptions)
+    (w : WorkspaceModel)
     (inputs : List Input) : Type 0 where
   pub metadata : AreMetadataRead files current named w
   pub are : AreInputs options w inputs

@@ -66,7 +66,8 @@ pub trait Store {
         ensures writes { (view self.new).writes ≡ (view self.old).writes }
         ensures cause { HasCause DeviceCall.Write (view self.old) (view self.new) result }
         ensures ready { OnOk result ((view self.new).stage_errors ≡ (view self.old).stage_errors) }
-        ensures counted { OnErr result (IsRaisedCount (view self.old).stage_errors (view self.new).stage_errors) }
+        ensures counted { OnErr result
+            (IsRaisedCount (view self.old).stage_errors (view self.new).stage_errors) }
     {
         Ok(())
     }
@@ -79,7 +80,8 @@ pub trait Store {
         ensures writes { (view self.new).writes ≡ (view self.old).writes }
         ensures cause { HasCause DeviceCall.Write (view self.old) (view self.new) result }
         ensures ready { OnOk result ((view self.new).stage_errors ≡ (view self.old).stage_errors) }
-        ensures counted { OnErr result (IsRaisedCount (view self.old).stage_errors (view self.new).stage_errors) }
+        ensures counted { OnErr result
+            (IsRaisedCount (view self.old).stage_errors (view self.new).stage_errors) }
     {
         Ok(())
     }
@@ -91,7 +93,8 @@ pub trait Store {
         ensures writes { (view self.new).writes ≡ (view self.old).writes }
         ensures cause { HasCause DeviceCall.Write (view self.old) (view self.new) result }
         ensures ready { OnOk result ((view self.new).stage_errors ≡ (view self.old).stage_errors) }
-        ensures counted { OnErr result (IsRaisedCount (view self.old).stage_errors (view self.new).stage_errors) }
+        ensures counted { OnErr result
+            (IsRaisedCount (view self.old).stage_errors (view self.new).stage_errors) }
     {
         Ok(())
     }

@@ -134,7 +134,8 @@ lines_at depth (suc n) text = line_at depth text >>= λ l.
 
 -- the text begins with a byte order mark
 abbrev pub begins_with_byte_order_mark : List ℕ → Bool
-begins_with_byte_order_mark text = first text == 0xEF && slice_index text 1 == 0xBB && slice_index text 2 == 0xBF
+begins_with_byte_order_mark text =
+    first text == 0xEF && slice_index text 1 == 0xBB && slice_index text 2 == 0xBF
 
 -- the text without a byte order mark at its start
 abbrev pub skip_byte_order_mark : List ℕ → List ℕ

@@ -135,11 +135,13 @@ literal_piece_at text =
 
 -- a piece of a multi-line string that is not its delimiter
 unfoldable pub line_piece_at : ℕ → List ℕ → Read Piece
-line_piece_at delimiter_byte text = if delimiter_byte == quote then basic_piece_at text else literal_piece_at text
+line_piece_at delimiter_byte text =
+    if delimiter_byte == quote then basic_piece_at text else literal_piece_at text
 
 -- the input begins with exactly three delimiters, which close the string; up to two more may precede these
 abbrev pub is_closing_delimiter : ℕ → List ℕ → Bool
-is_closing_delimiter delimiter_byte text = begins delimiter_byte delimiter_byte delimiter_byte text && not (slice_index text 3 == delimiter_byte)
+is_closing_delimiter delimiter_byte text =
+    begins delimiter_byte delimiter_byte delimiter_byte text && not (slice_index text 3 == delimiter_byte)
 
 -- a delimiter that is part of the string, where one more is allowed
 abbrev pub delimiter_at : (ℕ → List ℕ → Read (List Piece)) → ℕ → List ℕ → Read (List Piece)
@@ -153,7 +155,8 @@ body_at delimiter_byte zero few text = None
 body_at delimiter_byte (suc n) few text =
     if is_closing_delimiter delimiter_byte text then Some ([], drop 3 text)
     else (if first text == delimiter_byte then delimiter_at (body_at delimiter_byte n) few text
-    else (line_piece_at delimiter_byte text >>= λ p. body_at delimiter_byte n 2 p.1 >>= λ ps. Some (p.0 ∷ ps.0, ps.1)))
+    else (line_piece_at delimiter_byte text >>= λ p. body_at delimiter_byte n 2 p.1
+    >>= λ ps. Some (p.0 ∷ ps.0, ps.1)))
 
 -- the pieces of a multi-line string; the input begins behind the opening delimiter
 unfoldable pub multi_at : ℕ → List ℕ → Read (List Piece)

@@ -72,7 +72,8 @@ fn write_char<W: io::Write>(to: &mut W, c: char) -> io::Result<()>
 
 /// Writes a text so that a terminal shows each of its characters: those on which it would act as `\u{1b}`.
 pub fn write_for_terminal<W: io::Write>(to: &mut W, text: &str) -> io::Result<()>
-    ensures { OnOk result (Appends (W.contents to.old) (W.contents to.new) (terminal_chars (chars text.now))) }
+    ensures { OnOk result
+        (Appends (W.contents to.old) (W.contents to.new) (terminal_chars (chars text.now))) }
 {
     for c in text.chars() {
         write_char(to, c)?;

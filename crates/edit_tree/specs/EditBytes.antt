@@ -199,7 +199,8 @@ abbrev pub in_inner_dotted : Place → List ℕ → Text → Option Splice
 in_inner_dotted table m t = last_result grow (inner_pairs t)
   where
     grow : PlacedPair → Option Splice
-    grow p = option_map (λ suffix. put_before p.behind (codes ", " · dotted_pair p suffix m)) (front_to table p)
+    grow p = option_map (λ suffix. put_before p.behind (codes ", " · dotted_pair p suffix m))
+        (front_to table p)
 
 -- the insertion into a table that only headers pass through: its own header and the member, before the line
 -- of the first such header

@@ -102,4 +102,5 @@ removed_text gone t = without (innermost gone t)
     without (Some w) =
         let now = value_left gone w.place w.value [] in
         with_splice (text t) (record { from = value w.value w.after; to = w.after; now = now })
-    without None = byte_order_mark t.has_byte_order_mark (lines_left gone (lines t.lines) (placed_statements t))
+    without None = byte_order_mark t.has_byte_order_mark
+        (lines_left gone (lines t.lines) (placed_statements t))

@@ -36,7 +36,8 @@ literal_value text = option_map (λ p. p.0) (literal_at text)
 
 -- the decoded value of a multi-line string; the input begins behind its opening delimiter
 abbrev pub multi_value : ℕ → List ℕ → Option (List ℕ)
-multi_value delimiter_byte text = option_map (λ p. decoded_multi delimiter_byte p.0) (multi_at delimiter_byte text)
+multi_value delimiter_byte text =
+    option_map (λ p. decoded_multi delimiter_byte p.0) (multi_at delimiter_byte text)
 
 -- the decoded value of a token of this kind and length at the front of a text
 abbrev pub decoded_prefix : TokenKind → List ℕ → ℕ → Option (List ℕ)
@@ -224,7 +225,8 @@ table_opened st = pending_defined st 0 Super section Header None >>= λ r. Some 
 -- the state after the pending key becomes a header `[[key]]`
 abbrev pub array_table_opened : State → Option State
 array_table_opened st =
-    pending_defined st 0 Super sections Array None >>= λ r. element_added r.0.models r.1 section Element None >>= λ q.
+    pending_defined st 0 Super sections Array None >>= λ r.
+    element_added r.0.models r.1 section Element None >>= λ q.
     Some (with_only_table (record r.0 { models = q.0 }, q.1))
 
 -- the span of a token

@@ -79,7 +79,8 @@ fn no_entry(alloc: Global, table_path: &[String], name: &str) -> Error
 
 /// Removes a table if it is empty; the root stays.
 fn remove_empty_table(alloc: Global, document: &mut Document, table: &[Step]) -> CargoResult<()>
-    ensures without { OnOk result (IsTextWithout (empty_table_place (tree_of document.old) (place_view table.now))
+    ensures without { OnOk result (IsTextWithout
+        (empty_table_place (tree_of document.old) (place_view table.now))
         document.old.bytes document.new.bytes) }
     ensures gone { OnOk result ((path : List (List ℕ)) → (name : List ℕ)
         → place_view table.now ≡ place_of_keys path

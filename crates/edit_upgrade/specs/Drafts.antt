@@ -62,7 +62,8 @@ pub record IsPathAmong (inputs : List Input) (path : List ℕ) : Type 0 where
 
 -- the plan of these inputs over the cached answers: the rows, outputs and warnings of each input, in the
 -- order of the inputs, and no others (own)
-pub record ArePlanned (o : Options) (cached : CachedAnswers) (inputs : List Input) (configs : List (Vec Config))
+pub record ArePlanned (o : Options) (cached : CachedAnswers) (inputs : List Input)
+    (configs : List (Vec Config))
     (lines : List Line) (outputs : List Output) (warnings : List WarningView) : Type 0 where
   pub each : (i : ℕ) (input : Input) (own : Vec Config) → slice_get inputs i ≡ Some input
       → slice_get configs i ≡ Some own
@@ -98,7 +99,8 @@ pub record AddsInput (i : ℕ) (o : Options) (input : Input) (configs : List Con
   pub warned : HasWarnings o i input.bytes.items warnings
   pub rows_are : map line_of after.rows.items ≡ map line_of before.rows.items ++ lines
   pub outputs_are : after.outputs.items ≡ before.outputs.items ++ outputs
-  pub warnings_are : map warning_view after.warnings.items ≡ map warning_view before.warnings.items ++ warnings
+  pub warnings_are : map warning_view after.warnings.items
+      ≡ map warning_view before.warnings.items ++ warnings
 
 -- a document is given for each input, with its bytes, or none is given (own)
 abbrev pub AreGiven : List Input → List DocumentViews → Type 0

@@ -20,7 +20,8 @@ Stays old new = (address name : List ℕ) → IsSome (old address name) → new 
 
 -- one lookup: its answer is in the cache, and was there before or is one that the index gives; other cached
 -- answers are unchanged
-pub record IsLookupMade (address name : List ℕ) (gives : Outcomes) (old new : CachedAnswers) (lookup : Look) : Type 0 where
+pub record IsLookupMade (address name : List ℕ) (gives : Outcomes) (old new : CachedAnswers)
+    (lookup : Look) : Type 0 where
   pub at : serialize lookup.registry ≡ address
   pub of_name : string_bytes lookup.name ≡ name
   pub cached : new address name ≡ Some (answer_of lookup.answer)

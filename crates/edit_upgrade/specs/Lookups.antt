@@ -61,7 +61,8 @@ pub record AreLookups (Needed : List ℕ → List ℕ → Type 0) (gives : Outco
   pub needed : All (λ lookup. Needed (serialize lookup.registry) (string_bytes lookup.name)) lookups
   pub once : AreApart lookups
   pub as_cached : All
-      (λ lookup. new (serialize lookup.registry) (string_bytes lookup.name) ≡ Some (answer_of lookup.answer)) lookups
+      (λ lookup. new (serialize lookup.registry) (string_bytes lookup.name)
+      ≡ Some (answer_of lookup.answer)) lookups
   pub given : All
       (λ lookup. (old (serialize lookup.registry) (string_bytes lookup.name) ≡ Some (answer_of lookup.answer))
       ⊎ gives lookup.registry (string_bytes lookup.name) (Ok (answer_of lookup.answer))) lookups
@@ -76,7 +77,8 @@ pub record IsIndexAnswer (gives : Outcomes) (address name : List ℕ) (answer : 
 
 -- the effect of a call on the cached answers, even where it fails: those cached before are unchanged, and
 -- each new one is needed and is one that the index gives (own)
-pub record AddsNeeded (Needed : List ℕ → List ℕ → Type 0) (gives : Outcomes) (old new : CachedAnswers) : Type 0 where
+pub record AddsNeeded (Needed : List ℕ → List ℕ → Type 0) (gives : Outcomes) (old new : CachedAnswers)
+    : Type 0 where
   pub stays : (address name : List ℕ) → IsSome (old address name) → new address name ≡ old address name
   pub added : (address name : List ℕ) → old address name ≡ None
       → IfSome (new address name) (λ answer. Needed address name × IsIndexAnswer gives address name answer)

@@ -90,7 +90,8 @@ fn perform_lookup<I: Index>(
     name: &str,
     index: &mut IndexCache<I>,
 ) -> CargoResult<Look>
-    ensures lookup { IfOk result (IsLookupMade (serialize registry.now) name.now (I.view (index_of index.old)).gives
+    ensures lookup { IfOk result (IsLookupMade (serialize registry.now) name.now
+        (I.view (index_of index.old)).gives
         (cached_by index.old) (cached_by index.new)) }
     ensures left { Leaves (IsAt (serialize registry.now) name.now)
         (I.view (index_of index.old)).gives (I.view (index_of index.new)).gives

@@ -56,7 +56,8 @@ pub(crate) fn plan_input<I: Index>(
     ensures shown { IfOk result (IsPlannedView job.entry.input.now.bytes.items document.now) }
     ensures walked { IfOk result
         (λ p. IsWalked job.entry.number job.entry.parsed.options.now job.entry.input.now
-        addresses.old.configs.now (I.view (index_of index.old)).gives (cached_by index.old) (cached_by index.new)
+        addresses.old.configs.now (I.view (index_of index.old)).gives
+        (cached_by index.old) (cached_by index.new)
         books.old books.new (map line_of p.rows.items)) }
     ensures warnings { IfOk result (λ p. HasWarnings job.entry.parsed.options.now job.entry.number
         job.entry.input.now.bytes.items (map warning_view p.warnings.items)) }

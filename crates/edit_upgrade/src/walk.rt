@@ -59,7 +59,8 @@ fn registry_row<I: Index>(
         (cache_view I.view index.old) (cache_view I.view index.new) }
     ensures error { IfErr result (λ e. IsMemory e
         ⊎ StopsAt addresses.old.configs.now (I.view (index_of index.old)).gives (cached_by index.old)
-        (I.view (index_of index.old)).faults (I.view (index_of index.new)).faults (row_entry_view entry.now) e) }
+        (I.view (index_of index.old)).faults (I.view (index_of index.new)).faults
+        (row_entry_view entry.now) e) }
 {
     addresses.ensure_resolved(alloc, registry)?;
     let Some(url) = addresses.url(registry) else {
@@ -93,7 +94,8 @@ fn entry_row<I: Index>(
         (cache_view I.view index.old) (cache_view I.view index.new) }
     ensures error { IfErr result (λ e. IsMemory e
         ⊎ StopsAt addresses.old.configs.now (I.view (index_of index.old)).gives (cached_by index.old)
-        (I.view (index_of index.old)).faults (I.view (index_of index.new)).faults (row_entry_view entry.now) e) }
+        (I.view (index_of index.old)).faults (I.view (index_of index.new)).faults
+        (row_entry_view entry.now) e) }
 {
     match &entry.source {
         Source::Registry(Some(named)) => {

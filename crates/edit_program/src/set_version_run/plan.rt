@@ -30,7 +30,8 @@ pub(crate) fn plan_for(
     ensures planned { IfOk result (IsVersionPlan (target_of args.now.target)
         (selection_view args.now.selection) (workspace_view read.now.workspace) read.now.inputs.items) }
     ensures error { IfErr result (λ r. IsCauseOf (target_of args.now.target)
-        (selection_view args.now.selection) (workspace_view read.now.workspace) read.now.inputs.items r.error) }
+        (selection_view args.now.selection) (workspace_view read.now.workspace)
+        read.now.inputs.items r.error) }
     ensures counted { IfErr result (λ r. number_of r.error ≢ 3) }
 {
     let ReadWorkspace { workspace, inputs } = read;

@@ -118,7 +118,10 @@ fn past_line_piece(s: &[u8], delimiter_byte: u8) -> Option<&[u8]>
 fn is_closing_delimiter(s: &[u8], delimiter_byte: u8) -> bool
     ensures { result ≡ reading.is_closing_delimiter delimiter_byte s.now }
 {
-    first(s) == delimiter_byte && byte_at(s, 1) == delimiter_byte && byte_at(s, 2) == delimiter_byte && byte_at(s, 3) != delimiter_byte
+    first(s) == delimiter_byte
+        && byte_at(s, 1) == delimiter_byte
+        && byte_at(s, 2) == delimiter_byte
+        && byte_at(s, 3) != delimiter_byte
 }
 
 /// The input behind the closing delimiter of a multi-line string; `s` begins behind the opening one.

@@ -133,7 +133,8 @@ fn behind_whole(s: &[u8]) -> Option<(TokenKind, &[u8])>
 
 /// Whether the input begins with these three bytes.
 pub(crate) fn begins(s: &[u8], expected: [u8; 3]) -> bool
-    ensures { result ≡ reading.begins (slice_index expected 0) (slice_index expected 1) (slice_index expected 2) s.now }
+    ensures { result ≡ reading.begins (slice_index expected 0) (slice_index expected 1)
+        (slice_index expected 2) s.now }
 {
     first(s) == expected[0] && byte_at(s, 1) == expected[1] && byte_at(s, 2) == expected[2]
 }

@@ -82,7 +82,8 @@ pub(crate) fn pair<'a>(
     depth: usize,
 ) -> Result<&'a [u8], ReadError>
     requires { depth < 1000 }
-    ensures { AppendsTokens tokens_of_pair out.old out.new result (reading.pair_at (reading.value_at depth) s.now) }
+    ensures { AppendsTokens tokens_of_pair out.old out.new result
+        (reading.pair_at (reading.value_at depth) s.now) }
 {
     let after_key = key(out, s)?;
     let sign = past_run(after_key, Class::Blank);

@@ -58,9 +58,11 @@ fn latest_candidate(
 ) -> CargoResult<Option<String>>
     ensures text { IfOk result (λ o. option_map string_bytes o
         ≡ unless (is_too_low never_lower (text_in old.now)
-        (newer (offered_version (option_copied latest.entry)) (offered_version (option_copied compatible.entry))))
+        (newer (offered_version (option_copied latest.entry))
+        (offered_version (option_copied compatible.entry))))
         (option_and_then (λ v. text_or (plain_text v) (upgrade_of (text_in old.now) v))
-        (newer (offered_version (option_copied latest.entry)) (offered_version (option_copied compatible.entry))))) }
+        (newer (offered_version (option_copied latest.entry))
+        (offered_version (option_copied compatible.entry))))) }
     ensures error { IfErr result IsMemory }
 {
     let Some(latest) = latest else {
