@@ -11,7 +11,7 @@ further file is left behind it."""
 import pathlib
 import sys
 
-from memory import WORDS, in_turn
+from memory import ARGUMENTS, in_turn
 
 TEXTS = [b"Error: " + text for text in (
     b"Failed to look at a path\n", b"Failed to read a file\n", b"Failed to write updated Cargo.toml\n", b"Failed to write message\n")]
@@ -27,21 +27,21 @@ def failed(place, number):
     done = answer == place.usual and status == 0 and raised == len(place.new)
     # (where the call that fails is one that prints, the refusal may not be printed either)
     fronts = [err.partition(text)[0] for text in TEXTS if text in err] or [err] * (seen == "write")
-    told = status == 1 and any(place.is_front(out, front) for front in fronts)
-    if not done and not told:
+    reported = status == 1 and any(place.is_front(out, front) for front in fronts)
+    if not done and not reported:
         return f"status {status}, {raised} manifests raised, {out!r} {err!r}", False, seen
     place.reset()
     answer, _ = place.run("FAIL_AT", 0)
     if answer != place.usual or place.raised() != len(place.new) or place.files() != place.names:
         return f"the next run: {answer}, files {place.files()}", False, seen
-    return "", told, seen
+    return "", reported, seen
 
 
 def main():
-    library, program = (str(pathlib.Path(word).resolve()) for word in sys.argv[1:3])
-    for name in WORDS:
-        calls, told = in_turn(program, library, name, failed)
-        print(f"examples/{name}: {calls} calls for files fail in turn, of which {told} were told")
+    library, program = (str(pathlib.Path(arg).resolve()) for arg in sys.argv[1:3])
+    for name in ARGUMENTS:
+        calls, reported = in_turn(program, library, name, failed)
+        print(f"examples/{name}: {calls} calls for files fail in turn, of which {reported} were told")
 
 
 if __name__ == "__main__":

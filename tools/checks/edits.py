@@ -39,7 +39,7 @@ def steps(place):
     return ["#%d" % step if isinstance(step, int) else "." + step for step in place] + ["="]
 
 
-def words_of(value):
+def args_of(value):
     """The words of a value or an entry."""
     if isinstance(value, bool):
         return ["truth", "true" if value else "false"]
@@ -51,7 +51,7 @@ def words_of(value):
     if value["dotted"]:
         return ["dotted"]
     members = value["members"]
-    return ["table", str(len(members)), *(word for name, member in members for word in (name, *words_of(member)))]
+    return ["table", str(len(members)), *(arg for name, member in members for arg in (name, *args_of(member)))]
 
 
 def at(tree, place):
@@ -97,20 +97,20 @@ def common(old, new):
 
 def choose(chance, call, tree):
     """A place for an edit, its other words, and the tree that it means (but for a removal)."""
-    spots = list(places(tree))
+    found = list(places(tree))
     meant = copy.deepcopy(tree)
     if call == "insert":
-        place = chance.choice([spot for spot in spots if isinstance(at(tree, spot), dict)])
+        place = chance.choice([path for path in found if isinstance(at(tree, path), dict)])
         name = chance.choice([name for name in NAMES if name not in at(tree, place)])
         value = chance.choice(VALUES)
         at(meant, place)[name] = value
-        return place, [name, *words_of(value)], meant
-    place = chance.choice(spots[1:])
+        return place, [name, *args_of(value)], meant
+    place = chance.choice(found[1:])
     if call == "remove":
         return place, [], meant
     value = chance.choice(VALUES if call == "set_value" else ENTRIES)
     at(meant, place[:-1])[place[-1]] = entry_tree(value)
-    return place, words_of(value), meant
+    return place, args_of(value), meant
 
 
 def main():
@@ -125,8 +125,8 @@ def main():
             path.write_bytes(old)
             for call, count in EDITS.items():
                 for _ in range(count):
-                    place, words, meant = choose(chance, call, tree)
-                    command = [calls, str(path), call, *steps(place), *words]
+                    place, args, meant = choose(chance, call, tree)
+                    command = [calls, str(path), call, *steps(place), *args]
                     run = subprocess.run(command, capture_output=True, check=False)
                     answer, _, new = run.stdout.partition(b"\n")
                     counts[call, answer] = counts.get((call, answer), 0) + 1
