@@ -38,7 +38,7 @@ def spent(command):
 
 
 def edits(entry):
-    """The words of each edit; the first reads alone."""
+    """The arguments of each edit; the first only reads."""
     name = ".crate-%d" % entry
     return {
         "read alone": ["set_literal", ".none", "=", "x"],

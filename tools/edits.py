@@ -4,7 +4,7 @@ import re
 
 from source import Source
 
-# what a proof file is told where it names what is no longer there; what cites such a proof follows from that
+# The prover's errors for a proof file that names something that no longer exists, and for a file that cites such a proof.
 TAKEN_AWAY = re.compile(r"is not in scope|has no field|has no `|is no name|takes? no such")
 FOLLOWS = re.compile(r"was not admitted")
 PROOF = re.compile(r"(?:\./)?(proofs/(\S+)/(?:Answers|Invariants|Proof)\.antt):(\d+):\d+: error: (.*)")
@@ -91,7 +91,7 @@ def pairs(text):
 
 
 def differs(text):
-    """The input on which a mutant says that its result differs, or none."""
+    """The input for which the mutant's file claims a different result, or none."""
     inputs = [line[8:].strip() for line in text.split("\n") if line.startswith("differs:")]
     if len(inputs) > 1 or inputs == [""]:
         raise Unusable("it has more than one 'differs:' line, or one that names no input")
@@ -99,7 +99,7 @@ def differs(text):
 
 
 class Report:
-    """What a check says of the functions. `proved`: those that it proved. By the name of a function: `open`: the goals
+    """The result of a check by function. `proved`: those that it proved. By the name of a function: `open`: the goals
     that the search left; `broken`: each term of its own proof that no longer fits, with the goal that it answers; `taken`:
     what its proof names and the edit took away; `waits`: the functions that it calls and that are not proved; `other`:
     anything else."""
@@ -120,7 +120,7 @@ class Report:
                     self.broken.setdefault(name, []).append((self.answer_at(proof[1], int(proof[3])), whole))
 
     def behind(self, at):
-        """The lines that go on with what is told at a line, which begin with two spaces."""
+        """The lines that continue the message of a line; they begin with two spaces."""
         more = []
         for line in self.lines[at + 1:]:
             if not line.startswith("  "):
@@ -173,7 +173,7 @@ class Report:
 
 
 def judged(edit, report, changed):
-    """What a check says of an edit where these functions are changed: 'refused', 'failed' or 'again', and why; with
+    """The verdict of a check on an edit where these functions are changed: 'refused', 'failed' or 'again', and why; with
     'again' the functions beside which it is not to be tried."""
     ours = lambda found: [found[it] for it in sorted(found) if holds(edit.members, it)]
     waits = {it for name in report.waits if holds(edit.members, name) for it in report.whole_wait(name)}
@@ -207,7 +207,7 @@ def is_of_contract(goal):
 
 
 def plain(name):
-    """A function's name without the words that a closure in it adds."""
+    """A function's name without the parts that a closure in it adds."""
     return name.replace("::fn::", "::")
 
 

@@ -8,7 +8,7 @@ ASIDE = re.compile(r'//[^\n]*|/\*.*?\*/|b?r(#*)".*?"\1|b?"(?:\\.|[^"\\])*"|b?\'(
 # a clause stands before the body and has braces of its own
 CLAUSE = re.compile(r"\b(?:requires|ensures|ghost)\*?(?:\s+\w+)?(?:\s*:)?\s*\Z")
 
-# name: as a check prints it; cycle: the word of its attribute `cycle`, if it has one; cycles: the names that a check may
+# name: as a check prints it; cycle: the argument of its attribute `cycle`, if it has one; cycles: the names that a check may
 # print for the cycle of calls that it is in; label: as a reader knows it; head: from its attributes to its clauses;
 # start: of the head; begin, end: of the body, equal where there is none; in_trait: whether it stands in a trait or in
 # the impl of one
@@ -49,15 +49,15 @@ class Source:
         code, start, found = blanked(text), 0, []
         within = [Opened("module", module_of(path), "", "", 0, 0)]
         for at in (it.start() for it in re.finditer(r"[{};]", code)):
-            sign, head, outer = code[at], code[start:at], within[-1]
+            char, head, outer = code[at], code[start:at], within[-1]
             is_outside = outer.kind in ("module", "trait", "impl")
-            if sign == ";":
+            if char == ";":
                 if head.count("(") > head.count(")") or head.count("[") > head.count("]"):
                     # of the type of an array
                     continue
                 if is_outside and re.search(r"\bfn\s+\w", head):
                     found.append(function_of(self.opened(outer, head, start, at), at, outer, within[0].name))
-            elif sign == "{":
+            elif char == "{":
                 is_clause = is_outside and CLAUSE.search(head)
                 within.append(
                     Opened("clause", "", "", "", start, at) if is_clause

@@ -103,7 +103,7 @@ def any_options(rng):
 # ---- what the arguments of an upgrade mean
 
 def pairs_of(args):
-    """The options with their values; Unknown where the words have another form than those above."""
+    """The options with their values; Unknown where the arguments have another form than those above."""
     at = 0
     while at < len(args):
         arg, value = args[at], None

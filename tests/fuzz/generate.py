@@ -133,7 +133,7 @@ def depend(rng, made, folder, members, place):
 
 def set_version(rng):
     """New versions for members of a workspace. (A member that inherits a version which the root does not have
-    is left out, and so is one without any version: the one is told as bumped, and is not, and the other has a
+    is left out, and so is one without any version: the one is reported as bumped, and is not, and the other has a
     row of its own.)"""
     files, members = {}, members_of(rng)
     shared = rng.choice(VERSIONS)

@@ -46,7 +46,7 @@ class JsonWriter:
         return self.rng.choice(("", " ", "\t", "  ")) if self.odd else ""
 
     def text(self, text):
-        """A string. (The mark of the case's folder stays as it is.)"""
+        """A string. (`@HERE@`, which stands for the case's folder, stays as it is.)"""
         if not self.odd:
             return json.dumps(text, ensure_ascii=self.rng.random() < 0.5)
         made = ""

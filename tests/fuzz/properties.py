@@ -12,7 +12,7 @@ import messages
 from confined import changes
 
 ERROR = re.compile(rb"^Error: ", re.MULTILINE)
-# (names that no entry has are told behind the write)
+# (names that no entry has are reported after the write)
 MISSING = re.compile(rb"^Error: (dependency .* doesn't|dependencies .* don't) exist$", re.MULTILINE)
 ABORTED = re.compile(rb"^warning: aborting (upgrade|set-version) due to dry run\n", re.MULTILINE)
 CALLS = re.compile(rb"^ +Run .*\n", re.MULTILINE)
@@ -28,7 +28,7 @@ def changed_files(room, run):
 
 
 def shown(run):
-    """What a run said, for a fault's line."""
+    """The result of a run, for the line of a fault."""
     return f"status {run.status}, {run.out[-300:]!r}, {run.err[-600:]!r}"
 
 
@@ -94,7 +94,7 @@ def confined_changes(room, run, allowed):
 
 
 def applied(room, diff, by_git):
-    """The manifests after a diff is applied, and what the tool said where it failed."""
+    """The manifests after a diff is applied, and what the tool printed where it failed."""
     folder = tempfile.mkdtemp(prefix="fuzz-", dir=os.path.dirname(room.path))
     try:
         for name, text in room.begin.items():

@@ -19,7 +19,7 @@ class Fails(Exception):
 
 @dataclass
 class Options:
-    """What the arguments ask for."""
+    """The options of a command line of `set-version`."""
     level: str = "release"
     target: semver.Version | None = None
     build: str | None = None
@@ -39,7 +39,7 @@ class Member:
 
 
 def options_of(args):
-    """What the arguments ask for; Unknown where they are not those that a case has."""
+    """The options of these arguments; Unknown where they have a form that no case has."""
     options, at, seen = Options(), 0, set()
     while at < len(args):
         arg, value = args[at], None

@@ -69,7 +69,7 @@ def names_index(registry):
 
 def fails(room, trees, options):
     """Whether an upgrade has to fail by its configurations, or by the names and registries of its entries.
-    (Of an entry that is left out the documents do not say whether it is looked at.)"""
+    (The documents do not say whether an entry that is left out is checked.)"""
     known = configured(room)
     if known is None:
         return True
@@ -163,7 +163,7 @@ def without_version(place):
 
 
 def rows_agree(room, args, real, read):
-    """What is wrong where the messages' rows tell of other changes than those that were written."""
+    """What is wrong where the messages' rows report other changes than those that were written."""
     written, reported = {}, {}
     for name, places in set_places(room, args).items():
         written.update({(name, without_version(place)): None for place in places})
@@ -178,15 +178,15 @@ def rows_agree(room, args, real, read):
         tree = leaves(tree_of(real.files[name]))
         reported[name, place] = tree.get((*place, "version"), tree.get(place))
         if row["new"] != reported[name, place]:
-            yield f"a row tells {row['new']!r} where {reported[name, place]!r} stands: {row}"
+            yield f"a row has {row['new']!r} where {reported[name, place]!r} stands: {row}"
     # (an entry of the key `version` has a place that ends as a member does)
     if {key for key in reported if key[1][-1] != "version"} != {key for key in written
                                                                 if key[1][-1] != "version"}:
-        yield f"rows tell of changes {sorted(reported)}, and {sorted(written)} were written"
+        yield f"rows report the changes {sorted(reported)}, and {sorted(written)} were written"
     files = sorted(os.path.relpath(one["manifest_path"], room.path) for one in read
                    if one["reason"] == "upgrade-file")
     if files != set_files(room, args, real):
-        yield f"messages tell of the files {files}, and {set_files(room, args, real)} changed"
+        yield f"messages report the files {files}, and {set_files(room, args, real)} changed"
 
 
 def locked_run(room, args, real):
@@ -229,7 +229,7 @@ def calls_file(room, args, real):
 
 
 def by_folder(room, args, real):
-    """What is wrong where an index in a folder, laid out as `looks` says, gives another upgrade than one in a
+    """What is wrong where an index in a folder, laid out as `looks` prints, gives another upgrade than one in a
     file."""
     lookups = room.run(["looks", *args[1:]])
     yield from general(room, lookups, may_write=False)

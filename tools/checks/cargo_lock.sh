@@ -114,7 +114,7 @@ row_update_calls() {
   noted 0 upgrade --update-calls=calls.txt
   [ -s calls.txt ] || fail 'no calls'
 }
-# A dry run neither makes nor changes the lock file, whichever option asks for it.
+# A dry run neither makes nor changes the lock file, whichever option selects it.
 row_dry_runs() {
   local option status
   for option in -n --dry-run --check -qn -nv; do

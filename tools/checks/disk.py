@@ -1,6 +1,6 @@
 #!/usr/bin/env python3
 """disk.py PROGRAM: runs that may not write. On a disk without room, and under a limit of the size of files, the manifest
-stays as it was, the refusal is told and no file is left; with room again it is raised. A manifest that may not be written
+stays as it was, the error is reported and no file is left; with room again it is raised. A manifest that may not be written
 stays; in a folder where none may be made it is overwritten, and where it would grow on a disk without room it stays. Runs at
 once, over one manifest or a workspace of 30, wait for each other: with two indexes the later version stands in the end,
 whichever begins first."""

@@ -68,7 +68,7 @@ def stands(pattern):
 
 
 def candidates(path, token):
-    """The paths, from the repository's root, of which one has to be there; none for a word that names no file."""
+    """The paths, from the repository's root, of which one has to be there; none for a token that names no file."""
     first = token.split("/")[0]
     own = os.path.relpath(path, ROOT).split("/")
     crate = "/".join(own[:2]) if own[0] == "crates" and len(own) > 2 else None
@@ -84,11 +84,11 @@ def candidates(path, token):
 
 
 def wrong_quotes(text):
-    """The files that an example is said to be from, and is not."""
+    """The files that an example is quoted from although they do not contain it."""
     for name, example in QUOTED.findall(text):
         with open(os.path.join(ROOT, "crates", name.removeprefix("crates/")), encoding="utf-8") as file:
             if " ".join(example.split()) not in " ".join(file.read().split()):
-                yield "an example from %s, which has other words" % name
+                yield "an example from %s, which differs from the file" % name
 
 
 def missing(path, text):
@@ -97,7 +97,7 @@ def missing(path, text):
     text = FENCE.sub("", text)
     yield from bad_links(path, text)
     if os.path.basename(path) == "CHANGELOG.md":
-        # it tells of files as they were
+        # (the changelog names files of earlier versions)
         return
     for span in SPAN.findall(text):
         for token in re.split(r"[\s,;()\[\]{}:=]+", span):

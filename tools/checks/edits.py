@@ -1,7 +1,7 @@
 #!/usr/bin/env python3
 """edits.py CALLS: edits at random places of two manifests, each made by the program edit_calls (CALLS) and by Python on
 the tree that tomllib reads. Each must leave a text that reads as the old tree but at that place, and an insertion all
-bytes around one spot as they were. The places come from a fixed seed, so a failure can be repeated."""
+bytes around one place as they were. The places come from a fixed seed, so a failure can be repeated."""
 
 import copy
 import pathlib
@@ -35,16 +35,16 @@ def places(tree, here=()):
 
 
 def steps(place):
-    """The words of a place."""
+    """The arguments that name a place."""
     return ["#%d" % step if isinstance(step, int) else "." + step for step in place] + ["="]
 
 
 def args_of(value):
-    """The words of a value or an entry."""
+    """The arguments that name a value or an entry."""
     if isinstance(value, bool):
         return ["truth", "true" if value else "false"]
     if isinstance(value, str):
-        # (no word holds a byte 0)
+        # (no argument of a program may hold a byte 0)
         return ["zeros", value.replace("\0", "\u2400")] if "\0" in value else ["text", value]
     if isinstance(value, list):
         return ["list", str(len(value)), *value]
@@ -96,7 +96,7 @@ def common(old, new):
 
 
 def choose(chance, call, tree):
-    """A place for an edit, its other words, and the tree that it means (but for a removal)."""
+    """A place for an edit, its other arguments, and the expected tree (except for a removal)."""
     found = list(places(tree))
     meant = copy.deepcopy(tree)
     if call == "insert":

@@ -1,5 +1,5 @@
-"""errors.py PROGRAM: provokes each error of the program in a workspace of three members, of which one is at fault, and looks
-for the file at fault, the entry or line, and the help in standard error. Each run has to leave every file as it was."""
+"""errors.py PROGRAM: provokes each error of the program in a workspace of three members, of which one is wrong, and
+searches standard error for the wrong file, the entry or line, and the help. Each run has to leave every file as it was."""
 
 import json
 import os
@@ -88,7 +88,7 @@ def entries(text):
 
 
 def check(number, args, first, *parts, status=1, env=None, limit=None, stdout=subprocess.PIPE):
-    """Runs the program, and looks for the first line and the parts in standard error."""
+    """Runs the program, and compares the first line of standard error and searches it for the parts."""
     before = all_files()
     command = [PROGRAM, *args]
     if limit is not None:
@@ -199,7 +199,7 @@ def versions():
 
 
 def registries():
-    """Registries that are not defined, or that no index is looked in at."""
+    """Registries that are not defined, or whose index cannot be read."""
     workspace(entries('q = "1.0"\n'))
     first = "Error: Registry scheme `sparse+https` is not supported"
     upgrade(27, first, "  at @/m2/Cargo.toml:6:5\n", "--index-file", "--index-dir", "cargo upgrade", args=[])

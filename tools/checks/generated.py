@@ -100,8 +100,8 @@ def check_index_lines(check):
     _, came, _ = check.run(check.program, arguments, files | {"index.json": nested(126)})
     check.same("levels of an index line", "126 arrays", b'"latest":"1.0.0"' in came, True)
     for name, line in (("127 arrays", nested(127)), ("1000 arrays", "[" * 1000)):
-        status, _, shown_as = check.run(check.program, arguments, files | {"index.json": line})
-        came = status, shown_as.splitlines()[:1]
+        status, _, errors = check.run(check.program, arguments, files | {"index.json": line})
+        came = status, errors.splitlines()[:1]
         check.same("levels of an index line", name, came, (1, [b"Error: Invalid index line 1"]))
 
 
@@ -134,11 +134,11 @@ def check_many_members(check):
 
 
 def pieces_after(check, edits, text):
-    """The pieces in which a text is kept after edits; None if they are not the text."""
+    """The pieces that hold a text after edits; None if they are not the text."""
     arguments = [argument for edit in edits for argument in ("&", *edit)][1:]
     _, shown, _ = check.run(check.calls, ["Cargo.toml", "pieces", *arguments], {"Cargo.toml": text})
-    shown_as, count, whole, *pieces = shown.split(b"\0")
-    is_text = shown_as.partition(b"\n")[2] == whole == b"".join(pieces) and int(count) == len(pieces)
+    answer, count, whole, *pieces = shown.split(b"\0")
+    is_text = answer.partition(b"\n")[2] == whole == b"".join(pieces) and int(count) == len(pieces)
     return pieces if is_text else None
 
 

@@ -2,11 +2,11 @@
 """growth.py LIBRARY CALLS: each request for memory of a call is refused in turn. LIBRARY refuses the one whose number
 REFUSE_AT is; CALLS is the program edit_calls.
 
-Request 1 is refused, then 2, until a run ends without a refusal. Each run must answer 46, or what is wanted where nothing
+Request 1 is refused, then 2, until a run ends with no request refused. Each run must answer 46, or what is wanted where nothing
 is refused; the last must give what is wanted. After 46 the manifest that an edit was lent has its old text and shows what
 it showed, and the same edit of it then gives what is wanted; a cache still has the answer that it held, and the same call
-then gives what is wanted; of three outputs those before the refusal are whole and those behind it untouched; no output is
-written by a plan, and no further file is left. What is wanted is written here by hand."""
+then gives what is wanted; of three outputs those before the refused request are whole and those after it untouched; no
+output is written by a plan, and no further file is left. What is wanted is written here by hand."""
 
 import itertools
 import json
@@ -41,16 +41,16 @@ NEW = {"a": OLD["a"].replace(b"0.1.0", b"0.2.0"), "b": OLD["b"].replace(b"0.1.0"
 
 @dataclass
 class Call:
-    """A call: its name, its words, the files where it runs (with the folder's path for @HERE@), what it prints
-    where nothing is refused, what it may print where it met a refusal, the files that it leaves, and those that it may leave
-    behind a refusal."""
+    """A call: its name, its arguments, the files where it runs (with the folder's path for @HERE@), what it prints
+    where nothing is refused, what it may print where a request is refused, the files that it leaves, and those that it
+    may leave after a refused request."""
     what: str
     args: list
     files: dict
     answer: bytes
     lacks: list
     left: dict
-    left_by_refusal: list
+    left_early: list
 
 
 def edit(what, before, views, after, *args):
@@ -112,10 +112,10 @@ def plans():
     yield lookup("ranked", b"1.2.0 1.0.0+b 1.0.0+a ")
     yield plan("plan_set_version", b"".join(b"@HERE@/%s/Cargo.toml\n%s\n" % (name.encode(), text) for name, text in NEW.items()),
                workspace(OLD), "set_version", "@HERE@")
-    # behind a refusal so many of the three outputs are written
+    # (after a refused request the first outputs may be written, in their order)
     written = [{name: (NEW if number < count else OLD)[name] for number, name in enumerate(OLD)} for count in range(4)]
     yield plan("apply", b"", workspace(OLD), "apply", "@HERE@", left=workspace(NEW),
-               left_by_refusal=[workspace(members) for members in written])
+               left_early=[workspace(members) for members in written])
     yield plan("a package spec", b"serde\n", {"spec": b"serde@1.0, <2"}, "spec", "spec")
 
 
@@ -143,14 +143,14 @@ def run(program, call, library, number):
 
 
 def judged(call, answer, left):
-    """What is wrong with a run, and whether it met a refusal that it told."""
+    """What is wrong with a run, and whether a request was refused and the run reported it."""
     if answer == (0, call.answer, b""):
         return "" if left == call.left else "the files", False
-    # (what is refused before an edit, as the words or the manifest, is told on standard error)
+    # (a request before the edit, as for the arguments or the manifest, is reported on standard error)
     reported = answer in [(0, lack, b"") for lack in call.lacks] or answer == (1, b"", b"Error: " + LACK + b"\n")
     if not reported:
         return "neither 46 nor the usual answer", False
-    return "" if left in call.left_by_refusal else "the files", True
+    return "" if left in call.left_early else "the files", True
 
 
 def refused(pool, program, call, library):
@@ -166,13 +166,13 @@ def refused(pool, program, call, library):
             printed[answer[1]] += 1
             if not seen:
                 if lacks or not reported:
-                    sys.exit(f"{call.what}: " + ("a run without a refusal answered 46" if lacks else "no refusal was told"))
+                    sys.exit(f"{call.what}: " + ("a run with no request refused answered 46" if lacks else "no run reported a refused request"))
                 return number - 1, reported, printed
 
 
 def check_cached(counts):
     """The entries are in the cache where memory runs out while they are ranked: that is at each request of `ranked` that
-    `krate`, which only looks them up, does not make."""
+    `krate`, which is the lookup alone, does not make."""
     (looked_up, _, without), (requests, _, printed) = counts["krate"], counts["ranked"]
     cached = [sum(count for text, count in texts.items() if text.startswith(CACHED % 5)) for texts in (without, printed)]
     if cached != [0, requests - looked_up] or requests <= looked_up:

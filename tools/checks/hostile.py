@@ -1,7 +1,7 @@
 #!/usr/bin/env python3
 """hostile.py PROGRAM CALLS [--table]: texts as a hostile author would write them, for each reader: manifests, index lines,
-configurations, metadata, versions, addresses and words under PROGRAM, and words that no command line takes under CALLS, the
-program edit_calls. Each must end with the status and the text that its row wants, on a stack of a megabyte, within
+configurations, metadata, versions, addresses and arguments under PROGRAM, and texts that no command line takes under CALLS,
+the program edit_calls. Each must end with the status and the text that its row wants, on a stack of a megabyte, within
 200 MB of memory (addresses, not only what is touched) for a text of up to a megabyte, and within SECONDS of a processor for
 each megabyte, a second at least. No file changes unless its row says so. --table prints a line for each row: what, bytes,
 status, text, seconds for each megabyte."""

@@ -1,4 +1,4 @@
-"""Rows of hostile.py: entries of manifests, with the index lines, configurations and words that they meet."""
+"""Rows of hostile.py: entries of manifests, with the index lines, configurations and arguments that they meet."""
 
 from hostile_texts import CHECKING, NO_CONFIG, manifest, numbered
 
@@ -54,7 +54,7 @@ def entry_rows():
     for name in (b"", b"..", b"a/b", b"a\\u0000", b"\xc3\xa9", b"a" * 1_000_000):
         yield manifest(f"a crate {name[:9]!r}", lambda name=name: TABLE + b'"%s" = "1"\n' % name, 1, b"Error: Invalid crate name `")
     yield from chains()
-    yield from args()
+    yield from arguments()
 
 
 def chain(length, last):
@@ -89,14 +89,14 @@ def chains():
     yield manifest("no address", entry, 1, b"Error: invalid `registry` field", config=lambda: b'registries.s0.index = "' + b":" * 1_000_000 + b'"\n')
 
 
-def args():
+def arguments():
     arg = "a" * 120_000
     entry = lambda: TABLE + b'a = "1"\n'
-    yield manifest("a word of 120,000 bytes", entry, 1, b"Error: dependency " + arg[:100].encode(), args=("-p", arg))
-    yield manifest("a word of 120,000 slashes", entry, 1, b"Error: Invalid name `///", args=("-p", "/" * 120_000))
-    yield manifest("40,000 numbers in a requirement of a word", entry, 1, b"Error: Invalid version requirement `1.1.",
+    yield manifest("an argument of 120,000 bytes", entry, 1, b"Error: dependency " + arg[:100].encode(), args=("-p", arg))
+    yield manifest("an argument of 120,000 slashes", entry, 1, b"Error: Invalid name `///", args=("-p", "/" * 120_000))
+    yield manifest("40,000 numbers in a requirement of an argument", entry, 1, b"Error: Invalid version requirement `1.1.",
                    args=("-p", "a@" + "1." * 40_000))
-    yield manifest("10,000 words", entries(20_000, b'c%d = "1"\n'), 1, b"Error: dependencies w0, w1, ",
+    yield manifest("10,000 arguments", entries(20_000, b'c%d = "1"\n'), 1, b"Error: dependencies w0, w1, ",
                    args=tuple(arg for n in range(5_000) for arg in ("-p", f"w{n}")))
     yield manifest("5,000 excluded names", entries(20_000, b'c%d = "1"\n'),
                    args=tuple(arg for n in range(5_000) for arg in ("--exclude", f"c{n}")))

@@ -38,7 +38,7 @@ def index_rows():
 
 
 def ranking(what, text, output, requirement=b"0.1"):
-    """Index lines of one crate, whose latest version is told of an entry."""
+    """Index lines of one crate, whose latest version is reported for an entry."""
     return manifest("a ranking: " + what, lambda: TABLE + b'a = "%s"\n' % requirement, output=output, args=("-v",), index=text)
 
 
@@ -151,7 +151,7 @@ def version_rows():
 
 
 def addressed(what, address, status, output, name=b"a"):
-    """A crate that is looked up in the index in files at an address."""
+    """A lookup of a crate in an index of files at an address."""
     files = lambda: {"Cargo.toml": TABLE + b'"%s" = { version = "1", registry = "r" }\n' % name,
                      ".cargo/config.toml": b'registries.r.index = "%s"\n' % address}
     return Row(what, files, ("upgrade", "--manifest-path", f"{HERE}/Cargo.toml"), status, output)
@@ -160,14 +160,14 @@ def addressed(what, address, status, output, name=b"a"):
 def addresses():
     path, scheme = b"Error: invalid file path ", b"Error: Registry scheme `"
     for address, status, output in ((b"file:///%00", 1, path), (b"file:///a%00b", 1, path), (b"file:///%FF", 1, path),
-                                  (b"https://e/x", 1, scheme), (b"sparse+https://e/", 1, scheme), (b"git+ssh://e/x", 1, scheme),
+                                    (b"https://e/x", 1, scheme), (b"sparse+https://e/", 1, scheme), (b"git+ssh://e/x", 1, scheme),
                                   (b"file:///nowhere%2F..%2F..", 0, CHECKING), (b"file:///" + b"a" * 3000, 1, b"Error: Failed to read a file\n"),
                                   (b"file:///%2e%2e/%2e%2e/nowhere", 0, CHECKING), (b"file://" + b"/.." * MANY, 0, CHECKING)):
-        yield addressed(f"a look at {address[:30].decode()}", address, status, output)
+        yield addressed(f"a lookup at {address[:30].decode()}", address, status, output)
     name = b"Error: Invalid crate name `"
     for crate in (b"a" * 65, b"", b"..", b"a/b", b"a\\u0000b", b"\xc3\xa9", b"a" * MILLION, b"%2e%2e", b"con/../.."):
-        yield addressed(f"a look for {crate[:20]!r}", b"file:///nowhere", 1, name, crate)
-    yield addressed("a look for a name of 64 bytes", b"file:///nowhere", 0, CHECKING, b"a" * 64)
+        yield addressed(f"a lookup of {crate[:20]!r}", b"file:///nowhere", 1, name, crate)
+    yield addressed("a lookup of a name of 64 bytes", b"file:///nowhere", 0, CHECKING, b"a" * 64)
 
 
 def spec(what, text, output):

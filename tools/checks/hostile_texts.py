@@ -1,6 +1,6 @@
-"""The texts of hostile.py, reader by reader: what a row shows, its files, the words, the status, and a text that must be
-printed. What is wanted comes from the standard (TOML 1.0.0, JSON), from the limits that the README states and from what
-the original says."""
+"""The texts of hostile.py, reader by reader: what a row shows, its files, the arguments, the status, and a text that must
+be printed. What is wanted comes from the standard (TOML 1.0.0, JSON), from the limits that the README states and from what
+the original prints."""
 
 from dataclasses import dataclass
 from typing import Callable
@@ -16,8 +16,8 @@ INDEX_FILE = ("--index-file", f"{HERE}/index.json")
 
 @dataclass
 class Row:
-    """What a row shows, its files, the words of the program (@HERE@ is the folder of the files), the status, a text that is
-    printed, and whether each file stays; a row of `calls` is one of the program edit_calls."""
+    """What a row shows, its files, the arguments of the program (@HERE@ is the folder of the files), the status, a text that
+    is printed, and whether each file stays; a row of `calls` is one of the program edit_calls."""
     what: str
     files: Callable[[], dict]
     args: tuple

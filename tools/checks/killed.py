@@ -19,7 +19,7 @@ LINES = b'{"name":"a","vers":"1.0.0"}\n{"name":"a","vers":"1.5.0"}\n'
 
 
 class Manifests:
-    """The manifests of a workspace, in folders of their own, and the words of a run."""
+    """The manifests of a workspace, in folders of their own, and the arguments of a run."""
 
     def __init__(self, program, room):
         self.room = pathlib.Path(room)

@@ -3,8 +3,8 @@
 examples/first and the workspace of examples/workspace by `upgrade`, that of examples/versions by `set-version`. LIBRARY
 refuses the request whose number REFUSE_AT is.
 
-Request 1 is refused, then 2, until a run ends without a refusal. A run ends with status 0, and prints and leaves what an
-undisturbed one does; or with status 1, says behind a front of that that memory ran out, and of the manifests in their order
+Request 1 is refused, then 2, until a run ends with no request refused. A run ends with status 0, and prints and leaves what an
+undisturbed one does; or with status 1, says after the start of that output that memory ran out, and of the manifests in their order
 leaves some raised and those behind them as they were. No further file is left. What the manifests become was worked out by
 hand (examples/NAME/*.diff)."""
 
@@ -107,8 +107,8 @@ def lacked(place, number):
 
 
 def in_turn(program, library, name, tried):
-    """How many requests or calls of a run over an example were refused in turn, and how many runs told of it; what is wrong
-    with one ends the whole."""
+    """How many requests or calls of a run over an example were refused in turn, and how many runs reported it; the
+    first wrong run ends the whole."""
     reported = 0
     with tempfile.TemporaryDirectory() as folder, ThreadPoolExecutor(AT_ONCE) as pool:
         rooms = [pathlib.Path(folder) / str(number) for number in range(AT_ONCE)]
@@ -122,14 +122,14 @@ def in_turn(program, library, name, tried):
                     sys.exit(f"examples/{name}, number {number}: {wrong or 'it was not refused'}")
                 reported += reports
                 if not seen:
-                    return (number - 1, reported) if reported else sys.exit(f"examples/{name}: no refusal was told")
+                    return (number - 1, reported) if reported else sys.exit(f"examples/{name}: no run reported an error")
 
 
 def main():
     library, program = (str(pathlib.Path(arg).resolve()) for arg in sys.argv[1:3])
     for name in ARGUMENTS:
         requests, reported = in_turn(program, library, name, lacked)
-        print(f"examples/{name}: {requests} requests for memory refused in turn, of which {reported} were told")
+        print(f"examples/{name}: {requests} requests for memory refused in turn, of which {reported} are reported")
 
 
 if __name__ == "__main__":

@@ -61,15 +61,15 @@ UNMOVED = [
     ("no file beside", "left", "/a", "", "a"),
 ]
 
-# The words that stand for texts: each for a manifest with a greater version than the one before it.
+# The labels of texts: each is a manifest with a greater version than the one before it.
 LABELS = ("old", "new", "one", "two", "three", "four")
 
-# What the calls of `cargo update` say where the locked package has a word as its name.
+# The calls of `cargo update` for a locked package whose name is a label.
 CALLS = re.compile(r"cargo\nupdate\n.*\n--package\n(\w+)@1\.0\.0\n--offline\n\n", re.DOTALL)
 
 
 def manifest(label, name="a"):
-    """The text of the manifest that a word stands for."""
+    """The text of the manifest of a label."""
     return f'[dependencies]\n{name} = "1.0.{LABELS.index(label)}"\n'
 
 
@@ -79,7 +79,7 @@ def line(label, name="a"):
 
 
 def label_of(text):
-    """The word that stands for a text, or the text."""
+    """The label of a text, or the text itself where it has none."""
     calls = CALLS.fullmatch(text)
     if calls:
         return calls[1]
@@ -97,7 +97,7 @@ class Files:
         self.given.mkdir()
 
     def run(self, *args, **variables):
-        """The text of the program's refusal; none where it succeeds."""
+        """The program's error message; None where it succeeds."""
         done = subprocess.run([self.program, *args], cwd=self.given, env=variables, text=True, timeout=60,
                               stdin=subprocess.DEVNULL, capture_output=True, check=False)
         if not done.returncode:
@@ -106,7 +106,7 @@ class Files:
         return errors[0].removeprefix("Error: ") if errors else f"status {done.returncode}"
 
     def give(self, label, name="a"):
-        """Lays out a manifest, an index that has the word's version, and metadata with a locked package."""
+        """Writes a manifest, an index that has the label's version, and metadata with a locked package."""
         at = str(self.given)
         member = {"name": "p", "id": "p", "version": "1.0.0", "manifest_path": at + "/Cargo.toml"}
         package = {"name": name, "id": "q", "version": "1.0.0", "manifest_path": at + "/q/Cargo.toml",
@@ -133,7 +133,7 @@ class Files:
         return label_of(pathlib.Path(path).read_text()) if os.path.isfile(path) else "read, and no file"
 
     def write(self, path, label):
-        """What becomes of the manifest at a path that is raised to the word's; or, where no file stands, of
+        """What becomes of the manifest at a path that is raised to the label's; or, where there is no file, of
         the calls of `cargo update` that are written there."""
         if os.path.exists(path):
             self.give(label)
@@ -196,7 +196,7 @@ def unmoved(program, library, room):
     for number in itertools.count(1):
         seen = pathlib.Path(room, str(number))
         variables = {"LD_PRELOAD": library, "FAIL_AT": str(number), "REFUSE_SEEN": str(seen)}
-        # (in a folder as deep as that of the steps, since configurations are looked for upwards)
+        # (in a folder as deep as that of the steps, since configurations are searched for upwards)
         with tempfile.TemporaryDirectory() as own:
             files = Files(program, os.path.realpath(own), variables)
             CHANGES["put"](files.folder + "/a", "old")

@@ -74,12 +74,12 @@ def failed(workspace, args, new, share, counts):
             done = inject(args, call, f"error={error}")
             state = workspace.state(workspace.old, new)
             counts[error, f"status {done.returncode}", state] += 1
-            # (what fails while the error is printed leaves it untold)
+            # (a call that fails while the error is printed leaves it unprinted)
             reported = done.returncode == 1 and (b"Error: " in done.stderr or call[0] in ("write", "writev"))
             # (without a current folder the arguments cannot be read: a usage error)
             is_usage_error = done.returncode == 2 and b"error: the current folder" in done.stderr
             reported |= is_usage_error and call[0] == "getcwd" and state == "000"
-            # (what fails behind the last rename is told, with every manifest new)
+            # (a failure after the last rename is reported, and every manifest is new)
             if not is_front(state) or not (reported or (done.returncode == 0 and state == "111")):
                 yield f"{error} of {call}: status {done.returncode}, {state}, {done.stderr[-200:]!r}"
             if state not in ("000", "111") and not call[0].startswith("rename"):

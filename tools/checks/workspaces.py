@@ -1,4 +1,4 @@
-"""A workspace of small manifests that runs change at once, are killed over or are refused in, and the words of runs."""
+"""A workspace of small manifests that runs change at once, are killed over or fail in, and the arguments of runs."""
 
 import json
 import pathlib

@@ -18,7 +18,7 @@ import tempfile
 
 
 def verdict(program, room, text):
-    """Whether the program accepts a manifest and leaves it as it is, in words."""
+    """The verdict of the program on a manifest, as a text: whether it accepts it and leaves it as it is."""
     target = os.path.join(room, "Cargo.toml")
     with open(target, "wb") as file:
         file.write(text)
