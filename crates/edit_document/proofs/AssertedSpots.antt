@@ -47,7 +47,7 @@ span_here (w ∷ ws) p span e = go (same_place w.0 p) e (span_here ws p span)
     go true h ih = absurd cc
     go false h ih = ih h
 
--- ---- what a spot tells
+-- ---- what a model node says
 
 -- an element of this number may stand below a place of this kind
 abbrev pub Lists : Kind → ℕ → Type 0
@@ -84,7 +84,7 @@ pub record Tells (made : List Assertion) (written : List Placed) (s : ModelNode)
   pub count : is_headed kind ≡ true → length s.elements ≡ elements_below made s.place
   pub span : s.span ≡ span_at written s.place
 
--- the spots stand for these assertions, of which no two clash
+-- the model nodes represent these assertions, of which no two clash
 pub record Stands (made : List Assertion) (written : List Placed) (spots : List ModelNode) : Type 0 where
   pub tree : IsTree spots
   pub tells : (n : ℕ) (s : ModelNode) → slice_get spots n ≡ Some s → Tells made written s
@@ -143,7 +143,7 @@ stands_start = record {
         → t.place ≡ []
     root j t b = ap (λ (u : ModelNode). u.place) (sym (first j t b))
 
--- a spot that is not the root was asserted
+-- a model node other than the root was asserted
 pub was_asserted : {made : List Assertion} {written : List Placed} {s : ModelNode}
     → (t : Tells made written s)
     → (s.place ≡ [] → ⊥) → kind_at made s.place ≡ Some t.kind
@@ -159,7 +159,7 @@ short_at (a ∷ made) p k h e = go (same_place a.place p) refl e (short_at made 
     go true t g ih = subst (λ (q : Place). length q ≤ 80) (same_place_is a.place p t) h.0
     go false t g ih = ih g
 
--- nothing stands where no spot does
+-- no assertion names a place without a model node
 pub nothing_at : (made : List Assertion) (written : List Placed) (spots : List ModelNode) (p : Place)
     → Stands made written spots → ((n : ℕ) → StandsAt spots n p → ⊥) → kind_at made p ≡ None
 nothing_at made written spots p st none = go (kind_at made p) refl
@@ -168,7 +168,7 @@ nothing_at made written spots p st none = go (kind_at made p) refl
     go None e = e
     go (Some k) e = let c = st.covers p k e in absurd (none c.0 c.1)
 
--- the spot one step below another
+-- the model node one step below another
 pub step_below : (made : List Assertion) (written : List Placed) (spots : List ModelNode) (t : ℕ) (s : ModelNode)
     (x : Step) → Stands made written spots → slice_get spots t ≡ Some s → (n : ℕ)
     → StandsAt spots n (at s.place x) → below s x ≡ Some n

@@ -21,7 +21,7 @@ pub kind_shown : (d : DocumentViews) (nodes : List Node) (spots : List ModelNode
 kind_shown d nodes spots n node x f is =
     sym (ap kind_of f.view ∙ ap (λ (y : Content). kind_of (content_view d node y)) is)
 
--- and in which words
+-- the text of the content is that of the view
 pub word_shown : (d : DocumentViews) (nodes : List Node) (spots : List ModelNode) (n : ℕ) (node : Node) (x : Content)
     → Found d nodes spots n node → node.content ≡ x → word_of (content_view d node x)
     ≡ word_of (node_view d n)

@@ -26,7 +26,7 @@ use Rattle.edit_program.specs.UpgradeCauses.{IsLookupsCause}
 use Rattle.edit_program.specs.Planned.{IsPlanCause, IsPlanned, to_lookup_request, empty_answers}
 use Rattle.edit_program.specs.declared.upgrade_run.upgrade_args.UpgradeArgs.{UpgradeArgs}
 
--- the looks of a plan over an index that has no name are those that are needed
+-- the lookups of a plan over an index without any name are those that are needed
 pub looks_needed : (o : Options) (inputs : List Input) (configs : List (Vec Config)) (plan : UpgradePlan)
     → IsPlanned o inputs configs no_view plan → AreNeeded (IsNeeded inputs configs) plan.looks.items
 looks_needed o inputs configs plan planned = record {
@@ -43,7 +43,7 @@ named_at look answer (inl kept) = cc
 named_at look None (inr given) = given
 named_at look (Some entries) (inr given) = absurd given
 
--- so the lines of these looks are not refused for a name
+-- so the lines of these lookups have no error for a name
 pub lines_refused : (o : Options) (inputs : List Input) (configs : List (Vec Config)) (plan : UpgradePlan)
     (e : Error) → IsPlanned o inputs configs no_view plan
     → IsMemory e ⊎ HasBadLookup plan.looks.items (number_of e) → IsMemory e
@@ -56,7 +56,7 @@ lines_refused o inputs configs plan e planned (inr bad) =
 
 -- ---- causes
 
--- what the words name is not read
+-- what the arguments name is not read
 pub unread_cause : (words : UpgradeArgs) (current : List ℕ) (home : Option (List ℕ)) (old new : StoreView)
     (e : Error) → IsReadCause current home (to_lookup_request words) old new e
     → IsLookupsCause words current home old new e

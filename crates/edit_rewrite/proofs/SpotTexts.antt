@@ -8,9 +8,9 @@ use Rattle.edit_tree.specs.EditBytes.{before, with_splice}
 use Rattle.edit_rewrite.specs.StatementOffsets.{IsSpot}
 use Rattle.edit_tree.proofs.Ends.{Ends, suffix_is}
 
--- ---- what stands between spots
+-- ---- the text between offsets
 
--- from one spot to another
+-- from one offset to another
 pub cut_spots : (bytes s t : List ℕ) (m n : ℕ) → IsSpot bytes s → IsSpot bytes t → Ends s t → m ≡ length s
     → n ≡ length t → cut_from bytes (length bytes - m) (length bytes - n) ≡ before s t
 cut_spots bytes s t m n from to ends is_m is_n =
@@ -22,7 +22,7 @@ cut_spots bytes s t m n from to ends is_m is_n =
     ∙ cut_is bytes (length bytes - length s) (length bytes - length t) le from.fits to.fits
     ∙ ap₂ (λ (k : ℕ) (l : List ℕ). take k l) size (suffix_is bytes s (from.front, from.seam))
 
--- the whole text is a spot
+-- the start of a text is an offset of it
 pub whole_spot : (bytes : List ℕ) → IsUtf8 bytes → IsSpot bytes bytes
 whole_spot bytes u = record {
   front = [];
@@ -53,7 +53,7 @@ before_end s =
     let n : length s - 0 ≡ length s = omega arith in
     ap (λ (k : ℕ). take k s) n ∙ take_all (length s) s (omega arith)
 
--- what follows a spot
+-- the text after an offset
 pub cut_rest : (bytes s : List ℕ) (m : ℕ) → IsSpot bytes s → m ≡ length s
     → cut_from bytes (length bytes - m) (length bytes - 0) ≡ s
 cut_rest bytes s m from is =
@@ -62,7 +62,7 @@ cut_rest bytes s m from is =
     end_spot_of : (xs : List ℕ) → Ends xs []
     end_spot_of xs = let e = end_spot xs in (e.front, e.seam)
 
--- ---- other bytes at a spot
+-- ---- other bytes at an offset
 
 pub text_swapped : (bytes s t now one two three front back : List ℕ) (from to : ℕ) → IsUtf8 bytes
     → IsSpot bytes s → IsSpot bytes t → from ≡ length s → to ≡ length t

@@ -11,12 +11,12 @@ use Rattle.edit_shown.specs.declared.json.messages.Summary.{Summary}
 use Rattle.edit_upgrade.specs.declared.upgrade.UpgradePlan.{UpgradePlan}
 use Rattle.edit_shown.specs.Messages.{call_texts, summary_members}
 
--- the words of a call
+-- the arguments of a call
 words_data : (words : List (String Global)) → map text_data words ≡ map string (map string_bytes words)
 words_data [] = refl
 words_data (word ∷ words) = ap (λ ds. text_data word ∷ ds) (words_data words)
 
--- calls, each as a list of its words
+-- calls, each as a list of its arguments
 calls_data : (calls : List (Vec (String Global) Global))
     → map (λ l. list_data text_data l.items) calls ≡ map (λ call. list_data string call) (call_texts calls)
 calls_data [] = refl

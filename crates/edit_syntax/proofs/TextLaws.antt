@@ -30,7 +30,7 @@ mark_parts bytes = go (is_marked bytes) refl
         ap (λ (r : List ℕ). 0xBB ∷ r) (at_drop 2 0xBF bytes (omega arith) x.1))
     go false e = refl
 
--- lines that were read behind a mark or nothing
+-- lines that were read after a byte order mark or nothing
 pub lines_found : (n : ℕ) (bytes : List ℕ) (ls : Lines) → skip_byte_order_mark bytes ≡ lines ls → AreLines ls
     → lines_depth ls ≤ n → IsReadText n bytes (record { marked = is_marked bytes; lines = ls })
 lines_found n bytes ls e valid shallow = record {
@@ -84,7 +84,7 @@ lines_unmarked (more_lines l e ls) h = line_unmarked l (line_end e (lines ls)) h
 unmarked : (bytes : List ℕ) → eqb (first bytes) 0xEF ≡ false → is_marked bytes ≡ false
 unmarked bytes e = rw e refl
 
--- the lines of any form of a text are those behind its mark
+-- the lines of any form of a text are those after its byte order mark
 mark_of : (b : Bool) (ls : Lines) → AreLines ls → (is_marked (byte_order_mark b (lines ls)) ≡ b)
     × (skip_byte_order_mark (byte_order_mark b (lines ls)) ≡ lines ls)
 mark_of true ls h = (refl, refl)

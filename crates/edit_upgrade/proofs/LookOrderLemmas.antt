@@ -89,7 +89,7 @@ held-more address name set now ps adds held a n =
     ∙ one-more (is_pair (a, n) (address, name)) (list_any (is_pair (a, n)) ps)
     ∙ sym (list_any-append (is_pair (a, n)) ps ((address, name) ∷ []))
 
--- the pair of a look
+-- the pair of a lookup
 look-pair : (address name : List ℕ) (look : Look) → serialize look.registry ≡ address
     → string_bytes look.name ≡ name → pair_of look ≡ (address, name)
 look-pair address name look p q = rw (p, q) refl
@@ -120,7 +120,7 @@ step-pairs address name gives old new looks more set now ps step held so_far = e
 
 -- ---- a walk over entries
 
--- the looks and the set of pairs, after a walk, are those before it and those that its entries need
+-- the lookups and the set of pairs, after a walk, are those before it and those that its entries need
 record AreAdded (configs : List Config) (es : List RowEntry) (looks more : List Look) (set now : PairSet)
     : Type 0 where
   needs : List Pair
@@ -274,7 +274,7 @@ module _ (xs : List Input) (cs : List (Vec Config)) (x : Input) (own : Vec Confi
     held = subst (λ (ps : List Pair). HoldsPairs now ps) (sym flat-needs) held;
   }
 
--- the looks of one input more
+-- the lookups of one more input
 pub order-more : (xs : List Input) (cs : List (Vec Config)) (x : Input) (own : Vec Config)
     (gives : Outcomes) (old new : CachedAnswers) (looks more : List Look) (set now : PairSet)
     → length cs ≡ length xs → AreInOrderSoFar xs cs looks set → (form : Text)

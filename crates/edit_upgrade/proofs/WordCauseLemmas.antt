@@ -12,7 +12,7 @@ use Rattle.edit_upgrade.specs.Words.{IsPackageArg}
 use Rattle.edit_upgrade.specs.declared.decision.options.Options.{Options}
 use Rattle.edit_upgrade.proofs.Steps.{names-split}
 
--- reading stopped at one of these words
+-- reading stopped at one of these package arguments
 pub stops-at : (words : List (String Global)) (i : ℕ) (word : String Global) (text : List ℕ) (e : Error)
     → i < length words → word ≡ get_or words i word → text ≡ string_bytes word
     → All IsPackageArg (map string_bytes (take i words)) → IsInvalidSpec text e
@@ -28,11 +28,11 @@ stops-at words i word text e low is same read refused = record {
   refused = refused;
 }
 
--- want of memory refuses each word
+-- a lack of memory is an error of each package argument
 pub memory-refuses : (word : List ℕ) (e : Error) → e ≡ error.Memory → IsInvalidSpec word e
 memory-refuses word e h = subst (λ (x : Error). IsInvalidSpec word x) (sym h) tt
 
--- want of memory, where there is a word
+-- a lack of memory, where there is a package argument
 pub memory-at : (words : List (List ℕ)) (names : List (String Global)) (e : Error)
     → map string_bytes names ≡ each_once (map spec_name words) → names ≢ [] → e ≡ error.Memory
     → FailsAtPackageArg words e
@@ -47,7 +47,7 @@ memory-at (w ∷ ws) names e h some memory = record {
   refused = memory-refuses w e memory;
 }
 
--- options without words and excluded names are not refused
+-- options without package arguments and excluded names have no error of their own
 pub never-refused : (o : Options) (Cause : Error → Type 0) (e : Error) → o.package.items ≡ []
     → o.exclude.items ≡ [] → IsPlanError o Cause e → Cause e
 never-refused o Cause e words names (inl (inl h)) =

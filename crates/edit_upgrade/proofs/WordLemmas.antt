@@ -45,7 +45,7 @@ swapped a b = both_ways (same_bytes a b) (bytes_eq b a)
 
 -- ---- names, each once
 
--- a name that is kept where a test passes it
+-- a name is selected where it passes a test
 cached_by : (p : List ℕ → Bool) (x : List ℕ) (b s : Bool) → p x ≡ not s
     → filter p (if b then [] else x ∷ []) ≡ (if s || b then [] else x ∷ [])
 cached_by p x true true h = refl
@@ -65,7 +65,7 @@ once_more (y ∷ ys) x =
     ∙ ap (λ (zs : List (List ℕ)). y ∷ (filter test (each_once ys) ++ zs))
     (cached_by test x old (same_bytes x y) (ap not (swapped y x ∙ same_texts x y)))
 
--- a name is among those of words where one of them has it
+-- a name is among those of package arguments where one of them has it
 named_among : (words : List (List ℕ)) (name : List ℕ)
     → list_any (same_bytes name) (map spec_name words) ≡ is_named words name
 named_among [] name = refl
@@ -73,7 +73,7 @@ named_among (w ∷ ws) name =
     ap (λ b. b || list_any (same_bytes name) (map spec_name ws)) (swapped name (spec_name w))
     ∙ ap (λ b. bytes_eq (spec_name w) name || b) (named_among ws name)
 
--- ---- one word more
+-- ---- one more package argument
 
 pub named_more : (words : List (List ℕ)) (w name : List ℕ)
     → is_named (words ++ w ∷ []) name ≡ cond (bytes_eq (spec_name w) name) true (is_named words name)
@@ -96,7 +96,7 @@ requirement_more words w name =
     (reverse-append words (w ∷ []))
     ∙ requirement_first w name (reverse words) (is_arg_named name w) refl
 
--- what was read of words, with one more
+-- what was read of package arguments, with one more
 pub words_more : (words : List (List ℕ)) (w : List ℕ) (old new : PackageArgs) → ArePackageArgs words old
     → AddsPackageArg w old new → ArePackageArgs (words ++ w ∷ []) new
 words_more words w old new h a = record {
@@ -116,9 +116,9 @@ words_more words w old new h a = record {
       ∙ sym (requirement_more words w name);
 }
 
--- ---- words that only select
+-- ---- package arguments that only select
 
--- where no word of a list gives a requirement, the first that has a name does not
+-- where no package argument of a list gives a requirement, the first that has a name does not
 find_plain : (words : List (List ℕ)) (name : List ℕ) → All (λ word. spec_requirement word ≡ None) words
     → option_and_then spec_requirement (find (is_arg_named name) words) ≡ None
 find_plain [] name h = refl
@@ -145,7 +145,7 @@ none_given o h name =
     find_plain (reverse (package_args_of o)) name
     (reversed (λ word. spec_requirement word ≡ None) (package_args_of o) h)
 
--- ---- the names of words
+-- ---- the names of package arguments
 
 -- what holds of each of a list of names holds of each once
 once_all : (P : List ℕ → Type 0) (names : List (List ℕ)) → All P names → All P (each_once names)
@@ -154,7 +154,7 @@ once_all P (n ∷ ns) h =
     All-cons P n (filter (λ u. not (same_bytes n u)) (each_once ns)) (All-head P n ns h)
     (All-filter (λ u. not (same_bytes n u)) P (each_once ns) (once_all P ns (All-tail P n ns h)))
 
--- each name of words is one that they have
+-- each name of package arguments is one that they have
 names_named : (done words : List (List ℕ))
     → All (λ name. is_named (done ++ words) name ≡ true) (map spec_name words)
 names_named done [] = All-nil (λ name. is_named (done ++ []) name ≡ true)
@@ -178,7 +178,7 @@ once_named words = once_all (λ name. is_named words name ≡ true) (map spec_na
 
 -- ---- as the program keeps them
 
--- nothing was read of no words
+-- without package arguments nothing was read
 pub no_words : (w : PackageArgs) → w.names.items ≡ [] → IsEmpty w.requirements → ArePackageArgs [] w
 no_words w names empty = record {
   each = All-nil IsPackageArg;
@@ -216,7 +216,7 @@ kept_text : (b : Bool) (req : Option (String Global)) (o : Option (Option (Strin
 kept_text true req o = refl
 kept_text false req o = refl
 
--- one word more
+-- one more package argument
 pub word_added : (word : List ℕ) (old mid : PackageArgs)
     (kept : BTreeMap (String Global) (Option (String Global)) Global) (name : String Global)
     (req : Option (String Global)) (text : List ℕ)

@@ -52,7 +52,7 @@ admissible-version rust e v h =
     let f = fits-some rust (candidate_in e) v h in
     candidate-some e.yanked (minimum_rust e) (version_in e) f.0 f.1 ∙ ap (λ (w : Parts). Some w) f.2
 
--- a kept entry is admissible, and its version passes the test
+-- an entry that satisfies the condition is admissible, and its version passes the test
 pub kept-admissible : (rust : Option Numbers) (test : Parts → Bool) (e : IndexEntry) (v : Parts)
     → qualifying_in rust test e ≡ Some v
     → (admissible rust e ≡ Some v) × (test v ≡ true)

@@ -9,12 +9,12 @@ use Rattle.std.specs.Str.{bytes_eq}
 use Rattle.clap.specs.Words.{Text}
 use Rattle.edit_words.specs.Filled.{inserted_values, insert_defaults, is_one, missing_value}
 
--- what words become behind a word `--`, where there was one, or else
+-- what arguments become after an argument `--`, where there was one, or else
 abbrev pub rest_of : Bool → List Text → List Text
 rest_of true words = words
 rest_of false words = insert_defaults words
 
--- one more word
+-- one more argument
 pub turn : (ended : Bool) (word : Text) (rest : List Text)
     → rest_of ended (word ∷ rest)
     ≡ (word ∷ inserted_values (ended || bytes_eq word (codes "--")) word (slice_get rest 0))
@@ -37,7 +37,7 @@ next_of [] (suc n) = refl
 next_of (word ∷ words) zero = refl
 next_of (word ∷ words) (suc n) = next_of words n
 
--- one more word of a slice
+-- one more argument of a slice
 pub pushed : (ended now_ended : Bool) (words : List (Bor Text)) (n : ℕ) (word other : Bor Text)
     (old new all : List Text) (next : Option Text)
     → n < length words → word ≡ slice_index_or words n other
@@ -67,7 +67,7 @@ unfolding insert_defaults
 rest_of_none true = refl
 rest_of_none false = refl
 
--- no more words
+-- no more arguments
 pub all_pushed : (ended : Bool) (words : List (Bor Text)) (n : ℕ) (old all : List Text) → length words ≤ n
     → old ++ rest_of ended (map (λ (w : Bor Text). w.now) (drop n words)) ≡ all → old ≡ all
 all_pushed ended words n old all past before =
@@ -87,7 +87,7 @@ got (Some x) words n (lt, at) =
     ∙ ap (λ (w : Bor Text). Some w) (sym (at x.now)) in
     sym (ap (option_map (λ (w : Bor Text). w.now)) one)
 
--- nothing is missing where the next word is a value
+-- nothing is missing where the next argument is a value
 pub none_missing : (values : List Text) (next : Option Text)
     → option_map_or (is_one values) next false ≡ true → None ≡ missing_value values next
 none_missing values next is = rw is refl

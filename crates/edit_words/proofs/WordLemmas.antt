@@ -26,14 +26,14 @@ plain_rule (form.List _) id = refl
 plain_rule form.Flag id = refl
 plain_rule form.Counted id = refl
 
--- a word with neither
+-- an argument with neither a letter nor a default
 pub plain_word : (word : ArgSpec) (r : Rule) → r ≡ form_rule word.form word.id.now → word.letter ≡ None
     → word.default ≡ None → r ≡ arg_rule word
 plain_word word r rule letter default = rule ∙ (plain_rule word.form word.id.now
     ∙ ap₂ (λ l d. record (form_rule word.form word.id.now) { short = l; defaults = default_list d })
     (sym letter) (sym default))
 
--- a word with a letter alone
+-- an argument with a letter alone
 pub lettered_word : (word : ArgSpec) (r : Rule) (l : ℕ) → r ≡ form_rule word.form word.id.now
     → word.letter ≡ Some l → word.default ≡ None → record r { short = Some l } ≡ arg_rule word
 lettered_word word r l rule letter default =
@@ -41,7 +41,7 @@ lettered_word word r l rule letter default =
     ∙ ap₂ (λ l d. record (form_rule word.form word.id.now) { short = l; defaults = default_list d })
     (sym letter) (sym default)
 
--- a command gets one more word
+-- a command gets one more argument
 pub next_word : (old new : Command) (arg : Arg) (words : List ArgSpec) (i : ℕ) (d : ArgSpec) (all : App)
     → AddsArg old arg new → rule_of arg ≡ arg_rule (slice_index_or words i d) → arg.global ≡ false
     → i < length words
@@ -57,7 +57,7 @@ next_word old new arg words i d all adds rule local lt is =
       adds.globals ∙ ap₂ (λ x y. x || y) is.1 local,
     )
 
--- behind the last word
+-- after the last argument
 pub no_word : (command : Command) (words : List ArgSpec) (i : ℕ) (all : App) → length words ≤ i
     → (with_rules (app_of command) (map arg_rule (drop i words)) ≡ all)
     × ((out-Command command).has_globals ≡ false)
@@ -68,7 +68,7 @@ no_word command words i all le is = (
   is.1,
 )
 
--- a command gets words of which the rules are known
+-- a command gets arguments of which the rules are known
 pub words_added : {E : Type 0} (old new : Result Command E) (words : List ArgSpec) (rules : List Rule)
     (app : App)
     → ((a : App) → IfOk old (IsLocal a) → IfOk new (IsLocal (with_rules a (map arg_rule words))))

@@ -4,7 +4,7 @@ use Rattle.edit_tree.specs.WalkState.{IsToken}
 use Rattle.edit_tree.proofs.WalkEnds.{Along}
 use Rattle.edit_tree.proofs.walk.nodes_of.Given as goal
 
--- the walk is in the state behind the marks so far
+-- the walk is in the state after the tokens so far
 abbrev pub invariant-marks : goal.invariant-marks
 invariant-marks l = AllByRecursion (IsToken l.text) l.marks
     → Along l.walk l.text l.marks (drop l.mark-index l.marks)
