@@ -148,7 +148,7 @@ sort -u "$room/new" > "$room/list"
 put 644 "$room/list" "$list"
 echo "installed cargo-edit, cargo-upgrade and cargo-set-version in $prefix/bin ($origin)" >&2
 
-# Which `cargo upgrade` cargo runs: cargo looks in $CARGO_HOME/bin first, unless PATH names that folder.
+# Which `cargo upgrade` cargo runs: cargo searches $CARGO_HOME/bin first, unless PATH names that folder.
 home=${CARGO_HOME:-${HOME:-}/.cargo}
 for it in cargo-upgrade cargo-set-version; do
     found=$(command -v "$it" || true)

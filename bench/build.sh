@@ -12,7 +12,7 @@ packages="$packages librust-toml-edit-dev"
 
 # rustup's cargo, where the environment's PATH has none
 command -v cargo > /dev/null || PATH=$PATH:${CARGO_HOME:-${HOME:-}/.cargo}/bin
-# shellcheck disable=SC2086 # the packages are words
+# shellcheck disable=SC2086 # the variable holds several packages
 if ! dpkg-query -W $packages > /dev/null 2>&1; then
   echo "build.sh: installing $packages"
   sudo=''

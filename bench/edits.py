@@ -38,7 +38,7 @@ def spent(command):
 
 
 def edits(entry):
-    """The words of each edit; the first reads alone."""
+    """The arguments of each edit; the first only reads."""
     name = ".crate-%d" % entry
     return {
         "read alone": ["set_literal", ".none", "=", "x"],
@@ -68,13 +68,13 @@ def main():
             sizes[size][0].write_text(text)
         for _ in range(ROUNDS):
             for size, (path, rows) in sizes.items():
-                for row, words in rows.items():
+                for row, args in rows.items():
                     for program in programs:
-                        time = spent([program, str(path), *words])
+                        time = spent([program, str(path), *args])
                         least[program, row, size] = min(time, least.get((program, row, size), time))
         path, rows = sizes[SIZES[0]]
-        other = [row for row, words in rows.items()
-                 if len({output([program, str(path), *words]) for program in programs}) > 1]
+        other = [row for row, args in rows.items()
+                 if len({output([program, str(path), *args]) for program in programs}) > 1]
     show(programs, least)
     if other:
         print("\nThe two leave other texts: " + ", ".join(other) + ".")

@@ -44,8 +44,8 @@ def main():
         for count in COUNTS:
             for name, text in TEXTS.items():
                 path.write_text(manifest(text, count))
-                read, update = (min(spent([program, str(path), *words]) for _ in range(ROUNDS))
-                                for words in CALLS.values())
+                read, update = (min(spent([program, str(path), *args]) for _ in range(ROUNDS))
+                                for args in CALLS.values())
                 print(f"| {count:,} | {name} | {read:.4f} | {update:.4f} | {update / read:.1f} |")
 
 

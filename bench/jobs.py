@@ -17,7 +17,7 @@ READS_METADATA = "edit_metadata::workspace::Workspace::read"
 
 @dataclass
 class Result:
-    """What was measured: the size of the input in words, the cost of each program, the job, and the figure
+    """What was measured: the size of the input as a text, the cost of each program, the job, and the figure
     that is compared with what is wanted, with its unit where that is not the row's."""
     size: str
     costs: dict = field(default_factory=dict)
@@ -28,7 +28,7 @@ class Result:
 
 
 def size_text(count):
-    """A number of bytes in words."""
+    """A number of bytes as a text."""
     return f"{count / 1e6:.3g} MB" if count >= 1e5 else f"{count / 1e3:.3g} kB"
 
 
@@ -92,19 +92,19 @@ def start(room, _):
 
 def long_manifest(room, size):
     """An upgrade of long manifests without entries to raise."""
-    text, words = long_text(size)
-    return compare(words, room, one_line(room, text))
+    text, length = long_text(size)
+    return compare(length, room, one_line(room, text))
 
 
 def memory(make):
     """The peak memory for a manifest, in multiples of its text."""
     def measure(room, size):
         made = make(size)
-        text, words = made if isinstance(made, tuple) else (made, size_text(len(made)))
+        text, length = made if isinstance(made, tuple) else (made, size_text(len(made)))
         job = one_line(room, text)
         costs = room.costs(job, rounds=1)
         own = costs["program"].kilobytes * 1024 - OWN_MEMORY * 1e6
-        return Result(words, costs, job, own / len(text.encode()))
+        return Result(length, costs, job, own / len(text.encode()))
     return measure
 
 
@@ -160,7 +160,7 @@ def whole_upgrade(room, size):
                  "peer": ["-i", "--metadata", made.metadata, index], "limit": ["-i", *made.before, index]}
     room.costs(Job(made.folder, arguments, made.before, made.after), rounds=1)
     made.restore()
-    dry = Job(made.folder, {name: [*words[:1], "-n", *words[1:]] for name, words in arguments.items()})
+    dry = Job(made.folder, {name: [*args[:1], "-n", *args[1:]] for name, args in arguments.items()})
     lines = sum(len(crate.versions) for crate in found)
     size = f"{members} members, {count} crates, {lines:,} lines, {size_text(length)}"
     result = compare(size, room, dry, original_job(room, made))
@@ -174,11 +174,11 @@ def whole_upgrade(room, size):
 SET_VERSION = ["set-version", "--bump", "minor", "--workspace"]
 
 
-def share(words):
+def share(args):
     """The share of the instructions that the metadata take, in percent."""
     def measure(room, members):
         made = workspace(room.clear(), members)
-        job = Job(made.folder, {"program": [*words, "--metadata-json", made.metadata]})
+        job = Job(made.folder, {"program": [*args, "--metadata-json", made.metadata]})
         size = f"{members} members, metadata of {size_text(os.path.getsize(made.metadata))}"
         found = Result(size, room.costs(job), job)
         whole, part = (room.instructions("program", job, function) for function in (None, READS_METADATA))
@@ -206,9 +206,9 @@ def write_plainly(texts):
 def compare_writing(room, made):
     """The cost of setting new versions, that of a dry run, and the seconds of plain writes of the same
     files."""
-    words, after = [*SET_VERSION, "--metadata-json", made.metadata], made.with_next_minor()
-    real = Job(made.folder, {"program": words}, made.before, after)
-    dry = Job(made.folder, {"program": [*words, "-n"]})
+    args, after = [*SET_VERSION, "--metadata-json", made.metadata], made.with_next_minor()
+    real = Job(made.folder, {"program": args}, made.before, after)
+    dry = Job(made.folder, {"program": [*args, "-n"]})
     changed = {path: text for path, text in after.items() if text != made.before[path]}
     rounds = []
     for _ in range(room.rounds):

@@ -105,10 +105,10 @@ class Room:
     def run(self, name, job):
         """Runs a program once; what it takes."""
         out, errors_path = (os.path.join(self.folder, name) for name in ("measured", "errors"))
-        words = [self.starter, out, self.programs[name], *job.arguments[name]]
+        args = [self.starter, out, self.programs[name], *job.arguments[name]]
         with open(errors_path, "w", encoding="utf-8") as errors:
             start = time.perf_counter()
-            subprocess.run(words, cwd=job.folder, stdin=subprocess.DEVNULL, stdout=subprocess.DEVNULL,
+            subprocess.run(args, cwd=job.folder, stdin=subprocess.DEVNULL, stdout=subprocess.DEVNULL,
                            stderr=errors, env={"HOME": "/nonexistent", **job.variables}, check=True)
             wall = time.perf_counter() - start
         with open(out, encoding="utf-8") as file:

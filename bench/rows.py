@@ -11,7 +11,7 @@ from measure import DISK, TMPFS
 
 @dataclass
 class Row:
-    """A row: its name, its work in words, how it is measured, its size and that with --quick, what is wanted
+    """A row: its name, its work as a text, how it is measured, its size and that with --quick, what is wanted
     at most, of what the figure is a multiple, and what is wanted where it is one of the original's time."""
     name: str
     work: str

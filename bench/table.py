@@ -58,7 +58,7 @@ def counted_text(row, room, result):
 
 
 def machine():
-    """The machine in words."""
+    """A description of the machine."""
     model = "a processor"
     if os.path.exists("/proc/cpuinfo"):
         with open("/proc/cpuinfo", encoding="utf-8") as file:

@@ -25,7 +25,7 @@ FILES = (
 )
 
 ENVIRONMENT = (
-    ("CARGO", "The cargo that is asked; `cargo` of PATH without it."),
+    ("CARGO", "The cargo that is run; `cargo` of PATH without it."),
     ("CARGO_HOME", "The home of cargo, ~/.cargo without it."),
     ("XDG_CACHE_HOME", "The folder of caches, ~/.cache without it."),
     ("CARGO_NET_OFFLINE, CARGO_NET_RETRY, CARGO_HTTP_TIMEOUT, CARGO_HTTP_PROXY, CARGO_HTTP_CAINFO", "As for cargo."),
@@ -37,9 +37,9 @@ def of_command(name, page):
     """The help of the command of cargo, of that of the subcommand."""
     sections = []
     for heading, entries, text in page.sections:
-        kept = [it for it in entries if not PLUMBING & set(it.flags)]
+        public = [it for it in entries if not PLUMBING & set(it.flags)]
         shown = [help_text.Entry(it.written, next((TEXTS[name, flag] for flag in it.flags if (name, flag) in TEXTS), it.text))
-                 for it in kept]
+                 for it in public]
         sections.append((heading, shown, text))
     usage = page.usage.replace("cargo-edit ", "cargo ", 1).replace(" --metadata-json <FILE>", "")
     return help_text.Help(page.about, usage, sections)

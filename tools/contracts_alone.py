@@ -9,14 +9,14 @@ CYCLE = re.compile(r"#\[cycle\(\w+\)\]\s*")
 HOLE = "use %s.Statement.{statement}\n\npub %s_spec : {M : Type 1} → statement M\n%s_spec = ?\n"
 
 
-def leave_contracts(folder, crate, kept):
-    """Leaves of each function in a copy of the crate its head and its clauses, but for those that are kept (and what is
-    within them): `unreachable!()` stands for its body, and a hole for its proof, which a check with --allow-holes takes
-    by its statement."""
+def leave_contracts(folder, crate, whole):
+    """Reduces each function in a copy of the crate to its head and its clauses, except those in `whole` and what is within
+    them: `unreachable!()` replaces its body, and a hole its proof, which a check with --allow-holes accepts by its
+    statement."""
     source = Source(folder)
     for path, text in texts(os.path.join(folder, "src"), ".rt"):
         functions = source.functions(os.path.relpath(path, folder), text)
-        left = [it for it in functions if it.begin < it.end and it.name not in kept]
+        left = [it for it in functions if it.begin < it.end and it.name not in whole]
         for it in sorted(left, key=lambda it: -it.begin):
             head = CYCLE.sub("", text[it.start: it.begin])
             text = text[: it.start] + head + "{ unreachable!() }" + text[it.end + 1:]

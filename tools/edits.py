@@ -4,7 +4,7 @@ import re
 
 from source import Source
 
-# what a proof file is told where it names what is no longer there; what cites such a proof follows from that
+# The prover's errors for a proof file that names something that no longer exists, and for a file that cites such a proof.
 TAKEN_AWAY = re.compile(r"is not in scope|has no field|has no `|is no name|takes? no such")
 FOLLOWS = re.compile(r"was not admitted")
 PROOF = re.compile(r"(?:\./)?(proofs/(\S+)/(?:Answers|Invariants|Proof)\.antt):(\d+):\d+: error: (.*)")
@@ -91,15 +91,15 @@ def pairs(text):
 
 
 def differs(text):
-    """The input on which a mutant says that its result differs, or none."""
-    said = [line[8:].strip() for line in text.split("\n") if line.startswith("differs:")]
-    if len(said) > 1 or said == [""]:
+    """The input for which the mutant's file claims a different result, or none."""
+    inputs = [line[8:].strip() for line in text.split("\n") if line.startswith("differs:")]
+    if len(inputs) > 1 or inputs == [""]:
         raise Unusable("it has more than one 'differs:' line, or one that names no input")
-    return said[0] if said else None
+    return inputs[0] if inputs else None
 
 
-class Said:
-    """What a check says of the functions. `proved`: those that it proved. By the name of a function: `open`: the goals
+class Report:
+    """The result of a check by function. `proved`: those that it proved. By the name of a function: `open`: the goals
     that the search left; `broken`: each term of its own proof that no longer fits, with the goal that it answers; `taken`:
     what its proof names and the edit took away; `waits`: the functions that it calls and that are not proved; `other`:
     anything else."""
@@ -120,7 +120,7 @@ class Said:
                     self.broken.setdefault(name, []).append((self.answer_at(proof[1], int(proof[3])), whole))
 
     def behind(self, at):
-        """The lines that go on with what is told at a line, which begin with two spaces."""
+        """The lines that continue the message of a line; they begin with two spaces."""
         more = []
         for line in self.lines[at + 1:]:
             if not line.startswith("  "):
@@ -138,17 +138,17 @@ class Said:
         named = [it[1] for it in map(NAMED.match, lines) if it and it[1] not in ("use", "pub", "--")]
         return named[-1] if named else ""
 
-    def of_function(self, name, said, crate):
-        if said == "no holes" or said.startswith("depends on a hole in"):
+    def of_function(self, name, message, crate):
+        if message == "no holes" or message.startswith("depends on a hole in"):
             self.proved.add(name)
             return
-        for calls in re.findall(r"it calls (.*?), which (?:is|are) not proved", said):
+        for calls in re.findall(r"it calls (.*?), which (?:is|are) not proved", message):
             self.waits.setdefault(name, set()).update(
                 plain(it) for it in re.findall(r"`%s::([^`]+)`" % crate, calls))
-        if "did not prove" in said:
-            self.open[name] = said[said.index("`search` did not prove"):]
+        if "did not prove" in message:
+            self.open[name] = message[message.index("`search` did not prove"):]
         elif name not in self.waits:
-            self.other[name] = said
+            self.other[name] = message
 
     def strangers(self, changed):
         """The functions that are refused and are none of these."""
@@ -159,8 +159,8 @@ class Said:
         return self.lines[-1].startswith("only=")
 
     def first_error(self):
-        told = [line for line in self.lines if "error" in line] or self.lines[-3:]
-        return told[0][:200]
+        errors = [line for line in self.lines if "error" in line] or self.lines[-3:]
+        return errors[0][:200]
 
     def whole_wait(self, name):
         """The functions that are not proved and that this one calls, those behind them too."""
@@ -172,21 +172,21 @@ class Said:
         return found
 
 
-def judged(edit, said, changed):
-    """What a check says of an edit where these functions are changed: 'refused', 'failed' or 'again', and why; with
+def judged(edit, report, changed):
+    """The verdict of a check on an edit where these functions are changed: 'refused', 'failed' or 'again', and why; with
     'again' the functions beside which it is not to be tried."""
     ours = lambda found: [found[it] for it in sorted(found) if holds(edit.members, it)]
-    waits = {it for name in said.waits if holds(edit.members, name) for it in said.whole_wait(name)}
+    waits = {it for name in report.waits if holds(edit.members, name) for it in report.whole_wait(name)}
     foreign = {it for it in changed - edit.members if any(holds({it}, name) for name in waits)}
-    strangers, broken = said.strangers(changed), [it for found in ours(said.broken) for it in found]
-    if not said.reached_prover():
-        return "failed", "the check does not reach the prover: %s" % said.first_error()
+    strangers, broken = report.strangers(changed), [it for found in ours(report.broken) for it in found]
+    if not report.reached_prover():
+        return "failed", "the check does not reach the prover: %s" % report.first_error()
     if strangers:
         return "failed", "%s is refused too, which no edit touches" % strangers[0]
-    if ours(said.taken):
-        return "failed", "replace this edit: a proof names what it took away: %s" % ours(said.taken)[0]
-    if ours(said.open):
-        return "refused", ours(said.open)[0]
+    if ours(report.taken):
+        return "failed", "replace this edit: a proof names what it took away: %s" % ours(report.taken)[0]
+    if ours(report.open):
+        return "refused", ours(report.open)[0]
     for goal, text in broken:
         if is_of_contract(goal):
             return "refused", "%s: %s" % (goal, text)
@@ -198,7 +198,7 @@ def judged(edit, said, changed):
             "result differs: %s" % (broken[0][0] or "a proof", broken[0][1]))
     if foreign:
         return "again", foreign
-    return "failed", (ours(said.other) or ["%s is proved" % ", ".join(sorted(edit.functions))])[0]
+    return "failed", (ours(report.other) or ["%s is proved" % ", ".join(sorted(edit.functions))])[0]
 
 
 def is_of_contract(goal):
@@ -207,7 +207,7 @@ def is_of_contract(goal):
 
 
 def plain(name):
-    """A function's name without the words that a closure in it adds."""
+    """A function's name without the parts that a closure in it adds."""
     return name.replace("::fn::", "::")
 
 

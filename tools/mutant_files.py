@@ -17,21 +17,21 @@ def listed(crate, kind):
     return [os.path.join(folder, name) for name in names if name.endswith(".edit")]
 
 
-def chosen(crates, words, kind):
+def chosen(crates, args, kind):
     """The edits that are to be tried, by the names of their crates."""
     lost = {os.path.dirname(it) for it in glob.glob("crates/*/" + kind)} - {"crates/" + it.name for it in crates}
     if lost:
         sys.exit("wrong_bodies: crates.txt does not name %s, which has mutants" % sorted(lost)[0])
     found = {crate.name: listed(crate, kind) for crate in crates}
-    if not words:
+    if not args:
         return found
     wanted = {}
-    for word in words:
-        folder = os.path.dirname(os.path.dirname(os.path.abspath(word)))
-        crate = next((it.name for it in crates if it.name == word or word.endswith(".edit") and it.folder == folder), None)
-        if crate is None or word.endswith(".edit") and not os.path.isfile(word):
-            sys.exit("wrong_bodies: crates.txt names no crate %s, and it is no edit of one" % word)
-        wanted.setdefault(crate, []).extend([os.path.abspath(word)] if word.endswith(".edit") else found[crate])
+    for arg in args:
+        folder = os.path.dirname(os.path.dirname(os.path.abspath(arg)))
+        crate = next((it.name for it in crates if it.name == arg or arg.endswith(".edit") and it.folder == folder), None)
+        if crate is None or arg.endswith(".edit") and not os.path.isfile(arg):
+            sys.exit("wrong_bodies: crates.txt names no crate %s, and it is no edit of one" % arg)
+        wanted.setdefault(crate, []).extend([os.path.abspath(arg)] if arg.endswith(".edit") else found[crate])
     return {crate: list(dict.fromkeys(files)) for crate, files in wanted.items()}
 
 

@@ -15,10 +15,10 @@ def flags_of(page):
 # Most options whose values are listed may stand without one (the program fills it in), so another option may follow them.
 
 
-# bash: one function for each name on the command line. Cargo's own completion hands a command's words on without the
-# word that names it, so options are told at every place.
+# bash: one function for each name on the command line. Cargo's own completion passes a command's arguments on without the
+# name of the command, so options are offered at every position.
 def bash_cases(page, indent):
-    """What may stand at the word: an option, or the value of the option before it."""
+    """The cases of the current argument: an option, or the value of the option before it."""
     lines = [indent + "*,-*) words=$options ;;"]
     for entry in page.options:
         if entry.value:
@@ -50,7 +50,7 @@ complete -F {function} {name}
 """
 
 
-# Cargo's own completion hands a command's words to this function from bash-completion 2.12 on. Before, it knows options by
+# Cargo's own completion passes a command's arguments to this function from bash-completion 2.12 on. Before, it knows options by
 # variables of its own alone, and completes others from a variable of that form.
 BASH_OLD = """if [ "${{BASH_COMPLETION_VERSINFO[0]:-2}}" -eq 2 ] && [ "${{BASH_COMPLETION_VERSINFO[1]:-12}}" -lt 12 ]; then
     # cargo's own completion reads the options of a command here
@@ -129,11 +129,11 @@ def fish_text(text):
 def fish_lines(name, page, where):
     lines = []
     for entry in page.options:
-        words = ["complete -c %s%s" % (name, where)]
-        words += ["-%s %s" % ("l" if it.startswith("--") else "s", it.lstrip("-")) for it in entry.flags]
+        parts = ["complete -c %s%s" % (name, where)]
+        parts += ["-%s %s" % ("l" if it.startswith("--") else "s", it.lstrip("-")) for it in entry.flags]
         if entry.value:
-            words += ["-a " + fish_text(" ".join(entry.values)) if entry.values else "-r -F" if entry.is_path else "-x"]
-        lines.append(" ".join(words + ["-d " + fish_text(entry.text)]))
+            parts += ["-a " + fish_text(" ".join(entry.values)) if entry.values else "-r -F" if entry.is_path else "-x"]
+        lines.append(" ".join(parts + ["-d " + fish_text(entry.text)]))
     return lines
 
 

@@ -8,7 +8,7 @@ ASIDE = re.compile(r'//[^\n]*|/\*.*?\*/|b?r(#*)".*?"\1|b?"(?:\\.|[^"\\])*"|b?\'(
 # a clause stands before the body and has braces of its own
 CLAUSE = re.compile(r"\b(?:requires|ensures|ghost)\*?(?:\s+\w+)?(?:\s*:)?\s*\Z")
 
-# name: as a check prints it; cycle: the word of its attribute `cycle`, if it has one; cycles: the names that a check may
+# name: as a check prints it; cycle: the argument of its attribute `cycle`, if it has one; cycles: the names that a check may
 # print for the cycle of calls that it is in; label: as a reader knows it; head: from its attributes to its clauses;
 # start: of the head; begin, end: of the body, equal where there is none; in_trait: whether it stands in a trait or in
 # the impl of one
@@ -39,9 +39,9 @@ class Source:
     def __init__(self, folder):
         self.folder, self.homes, self.public = folder, {}, set()
         for path, text in texts(os.path.join(folder, "src"), ".rt"):
-            for word, kind in re.findall(r"(?m)^\s*(pub(?:\([^)]*\))? )?(?:struct|enum|trait) (\w+)", text):
+            for visibility, kind in re.findall(r"(?m)^\s*(pub(?:\([^)]*\))? )?(?:struct|enum|trait) (\w+)", text):
                 self.homes.setdefault(kind, module_of(os.path.relpath(path, folder)))
-                if word == "pub ":
+                if visibility == "pub ":
                     self.public.add(kind)
 
     def functions(self, path, text):
@@ -49,15 +49,15 @@ class Source:
         code, start, found = blanked(text), 0, []
         within = [Opened("module", module_of(path), "", "", 0, 0)]
         for at in (it.start() for it in re.finditer(r"[{};]", code)):
-            mark, head, outer = code[at], code[start:at], within[-1]
+            char, head, outer = code[at], code[start:at], within[-1]
             is_outside = outer.kind in ("module", "trait", "impl")
-            if mark == ";":
+            if char == ";":
                 if head.count("(") > head.count(")") or head.count("[") > head.count("]"):
                     # of the type of an array
                     continue
                 if is_outside and re.search(r"\bfn\s+\w", head):
                     found.append(function_of(self.opened(outer, head, start, at), at, outer, within[0].name))
-            elif mark == "{":
+            elif char == "{":
                 is_clause = is_outside and CLAUSE.search(head)
                 within.append(
                     Opened("clause", "", "", "", start, at) if is_clause
@@ -114,9 +114,9 @@ def function_of(opened, end, outer, file_module):
         outer.kind == "trait" or outer.kind == "impl" and " for " in outer.head)
 
 
-def named(word):
+def named(path):
     """A type or a trait as the name of an impl has it, and what its parameters add: `From<&io::Error>`, From, RefIoError."""
-    head, _, rest = word.strip().partition("<")
+    head, _, rest = path.strip().partition("<")
     inner = re.sub(r"<.*>", "", rest[:-1]) if rest.endswith(">") else ""
     parts = re.findall(r"&|\w+", re.sub(r"'\w+", "", inner))
     name = re.sub(r"\W", "", head.split("::")[-1])

@@ -19,7 +19,7 @@ class Case:
     """The files, by their paths below the folder, which stands for @HERE@ in them and in the arguments. Where
     the arguments are not sure to be well formed, the oracle says nothing of a usage error."""
     files: dict
-    words: list
+    args: list
     sure: bool = True
 
     def save(self, folder, why=()):
@@ -30,7 +30,7 @@ class Case:
             (folder / "files" / name).write_bytes(text)
         folder.mkdir(parents=True, exist_ok=True)
         (folder / "arguments.json").write_text(
-            json.dumps({"arguments": self.words, "sure": self.sure}) + "\n")
+            json.dumps({"arguments": self.args, "sure": self.sure}) + "\n")
         if why:
             (folder / "faults.txt").write_text("\n".join(why) + "\n")
 
@@ -41,13 +41,13 @@ class Case:
         base = folder / "files"
         files = {str(path.relative_to(base)): path.read_bytes() for path in sorted(base.rglob("*"))
                  if path.is_file()}
-        told = json.loads((folder / "arguments.json").read_text())
-        return Case(files, told["arguments"], told["sure"])
+        saved = json.loads((folder / "arguments.json").read_text())
+        return Case(files, saved["arguments"], saved["sure"])
 
     @property
     def command(self):
         """The subcommand, if there is one."""
-        return self.words[0] if self.words else ""
+        return self.args[0] if self.args else ""
 
 
 @dataclass
@@ -104,18 +104,18 @@ class Room:
                     found[os.path.relpath(path, self.path)] = file.read()
         return found
 
-    def run(self, words, again=False):
+    def run(self, args, again=False):
         """Runs the program from the case's files, or from those that an earlier run left."""
         if not again:
             self.restore()
-        words = [word.replace(HERE, self.path) for word in words]
+        args = [arg.replace(HERE, self.path) for arg in args]
         front = ["valgrind", "-q", "--error-exitcode=99"] if self.valgrind else []
         where = os.path.join(self.path, "ws")
         os.makedirs(where, exist_ok=True)
         environment = {"HOME": os.path.join(self.path, "home"), "PATH": "/usr/bin:/bin"}
         before = resource.getrusage(resource.RUSAGE_CHILDREN)
         try:
-            done = subprocess.run([*front, self.program, *words], cwd=where, env=environment,
+            done = subprocess.run([*front, self.program, *args], cwd=where, env=environment,
                                   capture_output=True, check=False,
                                   timeout=TIMEOUT * (20 if front else 1))
         except subprocess.TimeoutExpired as late:

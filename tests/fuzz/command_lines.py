@@ -39,88 +39,88 @@ def choice(rng, long, short, value):
 
 def upgrade_options(rng, names):
     """Options of an upgrade that say what is raised."""
-    words = []
+    args = []
     if rng.random() < 0.4:
-        words += rng.choice((["-i"], ["--incompatible"], ["--incompatible=allow"], ["-i", "true"],
+        args += rng.choice((["-i"], ["--incompatible"], ["--incompatible=allow"], ["-i", "true"],
                              ["--incompatible", "ignore"]))
     if rng.random() < 0.3:
-        words += rng.choice((["--pinned"], ["--pinned", "allow"], ["--pinned=false"]))
+        args += rng.choice((["--pinned"], ["--pinned", "allow"], ["--pinned=false"]))
     if rng.random() < 0.15:
-        words += rng.choice((["--compatible", "ignore"], ["--compatible=false"], ["--compatible"],
+        args += rng.choice((["--compatible", "ignore"], ["--compatible=false"], ["--compatible"],
                              ["--compatible", "true"]))
     if rng.random() < 0.2:
-        words += ["--never-lower"] if words or rng.random() < 0.3 else ["--never-lower", "-i"]
+        args += ["--never-lower"] if args or rng.random() < 0.3 else ["--never-lower", "-i"]
     if rng.random() < 0.2:
-        words += rng.choice((["--recursive"], ["--recursive", "false"], ["--recursive=true"]))
+        args += rng.choice((["--recursive"], ["--recursive", "false"], ["--recursive=true"]))
     if rng.random() < 0.25:
-        words += choice(rng, "--rust-version", None, rng.choice(("1.56", "1.60", "1.70.1", "2", "1.65.0")))
+        args += choice(rng, "--rust-version", None, rng.choice(("1.56", "1.60", "1.70.1", "2", "1.65.0")))
     elif rng.random() < 0.2:
-        words.append("--ignore-rust-version")
+        args.append("--ignore-rust-version")
     while rng.random() < 0.25:
         name = rng.choice(names)
         given = requirement(rng)
-        words += choice(rng, "--package", "-p", f"{name}@{given}" if rng.random() < 0.35 else name)
+        args += choice(rng, "--package", "-p", f"{name}@{given}" if rng.random() < 0.35 else name)
     while rng.random() < 0.15:
-        words += choice(rng, "--exclude", None, rng.choice(names))
-    words += rng.choice(([], [], [], ["-v"], ["-vv"], ["-q"], ["-v", "--verbose"]))
-    return words
+        args += choice(rng, "--exclude", None, rng.choice(names))
+    args += rng.choice(([], [], [], ["-v"], ["-vv"], ["-q"], ["-v", "--verbose"]))
+    return args
 
 
 def set_version_options(rng, names):
     """Options of `set-version` that say which versions are set."""
-    words = []
+    args = []
     kind = rng.random()
     if kind < 0.6:
-        words += choice(rng, "--bump", None, rng.choice(LEVELS))
+        args += choice(rng, "--bump", None, rng.choice(LEVELS))
     elif kind < 0.95:
-        words.append(rng.choice(("0.2.0", "1.0.0", "1.0.0-rc.1", "2.0.0", "3.0.0", "11.0.0", "1.2.3+b",
+        args.append(rng.choice(("0.2.0", "1.0.0", "1.0.0-rc.1", "2.0.0", "3.0.0", "11.0.0", "1.2.3+b",
                                  "0.0.1", "x")))
     if rng.random() < 0.2:
-        words += choice(rng, "--metadata", "-m", rng.choice(("b", "1.0", "a-b", "+")))
+        args += choice(rng, "--metadata", "-m", rng.choice(("b", "1.0", "a-b", "+")))
     kind = rng.random()
     if kind < 0.35:
-        words.append("--workspace")
+        args.append("--workspace")
     elif kind < 0.4:
-        words.append("--all")
+        args.append("--all")
     else:
         while rng.random() < 0.35:
-            words += choice(rng, "--package", "-p", rng.choice(names))
+            args += choice(rng, "--package", "-p", rng.choice(names))
     while rng.random() < 0.12:
-        words += choice(rng, "--exclude", None, rng.choice(names))
-    return words
+        args += choice(rng, "--exclude", None, rng.choice(names))
+    return args
 
 
 def any_options(rng):
     """Arguments of every kind, in any number and order."""
-    words = []
+    args = []
     for _ in range(rng.choice((0, 1, 2, 2, 3, 4, 6))):
-        words += rng.choice(ANY).split(" ")
-    if rng.random() < 0.1 and words:
-        words[rng.randrange(len(words))] += rng.choice(("x", "=", "\u00e9", "'"))
-    return words
+        args += rng.choice(ANY).split(" ")
+    if rng.random() < 0.1 and args:
+        args[rng.randrange(len(args))] += rng.choice(("x", "=", "\u00e9", "'"))
+    return args
 
 
 # ---- what the arguments of an upgrade mean
 
-def pairs_of(words):
-    """The options with their values; Unknown where the words have another form than those above."""
+def pairs_of(args):
+    """The options with their values; Unknown where the arguments have another form than those above."""
     at = 0
-    while at < len(words):
-        word, value = words[at], None
+    while at < len(args):
+        arg, value = args[at], None
         at += 1
-        if word.startswith("--") and "=" in word:
-            word, value = word.split("=", 1)
-        elif word[:2] in ("-p", "-i") and len(word) > 2 and word[1] != "-":
-            word, value = word[:2], word[2:]
-        elif word in NEED_VALUE:
-            if at == len(words) or words[at].startswith("-"):
+        if arg.startswith("--") and "=" in arg:
+            arg, value = arg.split("=", 1)
+        elif arg[:2] in ("-p", "-i") and len(arg) > 2 and arg[1] != "-":
+            arg, value = arg[:2], arg[2:]
+        elif arg in NEED_VALUE:
+            if at == len(args) or args[at].startswith("-"):
                 raise oracle.Unknown("an option without its value")
-            value, at = words[at], at + 1
-        elif word in VALUED:
-            value = VALUED[word][0]
-            if at < len(words) and words[at] in VALUED[word]:
-                value, at = words[at], at + 1
-        yield word, value
+            value, at = args[at], at + 1
+        elif arg in VALUED:
+            value = VALUED[arg][0]
+            if at < len(args) and args[at] in VALUED[arg]:
+                value, at = args[at], at + 1
+        yield arg, value
 
 
 def add_package(options, value):
@@ -132,36 +132,36 @@ def add_package(options, value):
     options.packages[name] = text if at else None
 
 
-def check_value(word, value):
+def check_value(arg, value):
     """Unknown where an option has a value that is none of its own, or names another manifest."""
-    bad_version = word == "--rust-version" and not oracle.rust_numbers(value)
-    other_path = word == "--manifest-path" and value not in MANIFESTS
-    if bad_version or other_path or value == "" or word in VALUED and value not in VALUED[word]:
-        raise oracle.Unknown(f"a value of {word}")
+    bad_version = arg == "--rust-version" and not oracle.rust_numbers(value)
+    other_path = arg == "--manifest-path" and value not in MANIFESTS
+    if bad_version or other_path or value == "" or arg in VALUED and value not in VALUED[arg]:
+        raise oracle.Unknown(f"a value of {arg}")
 
 
-def upgrade_meaning(words):
+def upgrade_meaning(args):
     """What an upgrade may do by its options."""
     options, seen = oracle.Options(), set()
-    for word, value in pairs_of(words):
-        word = "--incompatible" if word == "-i" else word
-        if word in seen and word not in ("-p", "--package", "--exclude", "-v", "-vv", "-q", "--verbose"):
+    for arg, value in pairs_of(args):
+        arg = "--incompatible" if arg == "-i" else arg
+        if arg in seen and arg not in ("-p", "--package", "--exclude", "-v", "-vv", "-q", "--verbose"):
             raise oracle.Unknown("an option twice")
-        seen.add(word)
-        check_value(word, value)
-        if word in ("-p", "--package"):
+        seen.add(arg)
+        check_value(arg, value)
+        if arg in ("-p", "--package"):
             add_package(options, value or "")
-        elif word == "--exclude":
+        elif arg == "--exclude":
             options.excluded.add(value)
-        elif word == "--rust-version":
+        elif arg == "--rust-version":
             options.rust_version = oracle.rust_numbers(value)
-        elif word in ("--incompatible", "--pinned", "--compatible"):
-            setattr(options, word[2:], value in YES)
-        elif word in ("--never-lower", "--ignore-rust-version"):
-            setattr(options, word[2:].replace("-", "_"), True)
-        elif word not in ("-v", "-vv", "-q", "--verbose", "--recursive", "--index-file", "--metadata-json",
+        elif arg in ("--incompatible", "--pinned", "--compatible"):
+            setattr(options, arg[2:], value in YES)
+        elif arg in ("--never-lower", "--ignore-rust-version"):
+            setattr(options, arg[2:].replace("-", "_"), True)
+        elif arg not in ("-v", "-vv", "-q", "--verbose", "--recursive", "--index-file", "--metadata-json",
                           "--manifest-path"):
-            raise oracle.Unknown(f"the argument {word}")
+            raise oracle.Unknown(f"the argument {arg}")
     if {"--rust-version", "--ignore-rust-version"} <= seen:
         raise oracle.Unknown("options that exclude each other")
     return options

@@ -133,7 +133,7 @@ def depend(rng, made, folder, members, place):
 
 def set_version(rng):
     """New versions for members of a workspace. (A member that inherits a version which the root does not have
-    is left out, and so is one without any version: the one is told as bumped, and is not, and the other has a
+    is left out, and so is one without any version: the one is reported as bumped, and is not, and the other has a
     row of its own.)"""
     files, members = {}, members_of(rng)
     shared = rng.choice(VERSIONS)
@@ -165,12 +165,12 @@ def command_line(rng):
     case = workspace(rng) if rng.random() < 0.5 else set_version(rng)
     case.files.setdefault("index.json", b'{"name":"serde","vers":"1.5.0"}\n')
     command = rng.choice(("upgrade", "upgrade", "set-version", "set-version", "looks", "add", "rm", "", "x"))
-    words = [command] if command else []
+    args = [command] if command else []
     if rng.random() < 0.9:
-        words += METADATA
+        args += METADATA
     if rng.random() < 0.7 and command in ("upgrade", "looks"):
-        words += INDEX
-    return Case(case.files, words + any_options(rng), False)
+        args += INDEX
+    return Case(case.files, args + any_options(rng), False)
 
 
 def case_of(seed, number):

@@ -46,7 +46,7 @@ class JsonWriter:
         return self.rng.choice(("", " ", "\t", "  ")) if self.odd else ""
 
     def text(self, text):
-        """A string. (The mark of the case's folder stays as it is.)"""
+        """A string. (`@HERE@`, which stands for the case's folder, stays as it is.)"""
         if not self.odd:
             return json.dumps(text, ensure_ascii=self.rng.random() < 0.5)
         made = ""
@@ -117,7 +117,7 @@ def metadata(rng, members, others=()):
         packages.append({"name": name, "version": number, "id": f"path+file:///ws/{folder}#{name}@{number}",
                          "source": None,
                          "manifest_path": path, "dependencies": [], "targets": [], **further})
-    told = {"packages": packages + list(others), "workspace_members": [one["id"] for one in packages],
+    listed = {"packages": packages + list(others), "workspace_members": [one["id"] for one in packages],
             "workspace_root": "@HERE@/ws", "version": 1, "target_directory": "@HERE@/ws/target"}
     if rng.random() < 0.5:
         for package in packages:
@@ -125,8 +125,8 @@ def metadata(rng, members, others=()):
             rng.shuffle(items)
             package.clear()
             package.update(items)
-    rng.shuffle(told["packages"])
-    return JsonWriter(rng).value(told).encode()
+    rng.shuffle(listed["packages"])
+    return JsonWriter(rng).value(listed).encode()
 
 
 def registry_package(name, number):

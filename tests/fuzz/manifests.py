@@ -14,7 +14,7 @@ ODD_REQUIREMENTS = ("*", "x", "X", "1.*", "1.x", "1.2.*", "1.*.*", "0.*", ">=1, 
 UNREADABLE = ("", "v1", "1.2.3.4", "a", "1..2", "1,", ",1", "01", "1.0.0-", "1.0.0-01",
               "18446744073709551616", "=", "1 2", "*, 1", "1.*.3", "^", "==1", "1.0-a", "\u00e9", "1\t",
               "latest")
-# (A name with a line end or another control character is printed as it stands, so that it may look like a
+# (A name with a line end or another control character is printed as it stands, so that it may resemble a
 # message: such names are left out. So is a package version that is no text, which set-version replaces by
 # one.)
 ODD_KEYS = ("a b", "\u00e9", "a.b", "x'y", 'x"y', "#", "A", "1")
@@ -153,7 +153,7 @@ class Manifest:
             self.root.append(w.pair(place, value))
 
     def add_noise(self, kind):
-        """Adds a table that is no dependency table, or one that looks like one."""
+        """Adds a table that is no dependency table, or one that resembles one."""
         w, rng = self.w, self.rng
         if kind == 0:
             self.sections.append(w.header(["features"]) + w.pair(["default"], w.array([w.string("std")])))

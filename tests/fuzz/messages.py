@@ -40,11 +40,11 @@ def read(out):
     """The messages of an output; a ValueError where a line is no object as this program writes it."""
     messages = []
     for line in out.decode().split("\n")[:-1]:
-        told = json.loads(line)
-        keys = list(told) if isinstance(told, dict) else []
+        message = json.loads(line)
+        keys = list(message) if isinstance(message, dict) else []
         if not keys or keys != sorted(keys, key=str.encode):
             raise ValueError(f"no object with sorted keys: {line}")
-        messages.append(told)
+        messages.append(message)
     if out and not out.endswith(b"\n"):
         raise ValueError("no line end at the end")
     return messages
@@ -53,21 +53,21 @@ def read(out):
 def faults(command, messages):
     """What is wrong with messages of a command."""
     reasons = ORDER[command]
-    for told in messages:
-        reason = told.get("reason")
+    for message in messages:
+        reason = message.get("reason")
         form = MEMBERS.get(reason)
         if form is None or reason not in reasons:
             yield f"a message with the reason {reason}"
             continue
-        if told.get("version") != 1:
-            yield f"a message of no format's number: {told}"
-        lacks = form.keys() - told.keys()
+        if message.get("version") != 1:
+            yield f"a message of no format's number: {message}"
+        lacks = form.keys() - message.keys()
         if lacks:
-            yield f"a message without {sorted(lacks)}: {told}"
-        for name in form.keys() & told.keys():
-            if not fits(told[name], form[name]):
-                yield f"the member {name} is not {form[name]}: {told}"
-    order = [reasons.index(told["reason"]) for told in messages if told.get("reason") in reasons]
+            yield f"a message without {sorted(lacks)}: {message}"
+        for name in form.keys() & message.keys():
+            if not fits(message[name], form[name]):
+                yield f"the member {name} is not {form[name]}: {message}"
+    order = [reasons.index(message["reason"]) for message in messages if message.get("reason") in reasons]
     if order != sorted(order):
         yield "messages out of their order"
     if command == "upgrade" and order.count(3) != 1:

@@ -140,17 +140,17 @@ def no_constant(text):
 
 def read_line(line):
     """What a line of an index says; a ValueError where it is none."""
-    told = json.loads(line.decode(), parse_float=finite, parse_constant=no_constant)
+    record = json.loads(line.decode(), parse_float=finite, parse_constant=no_constant)
     # (half of a pair of surrogates is no character)
-    json.dumps(told, ensure_ascii=False).encode()
-    if not isinstance(told, dict):
+    json.dumps(record, ensure_ascii=False).encode()
+    if not isinstance(record, dict):
         raise ValueError("no object")
-    texts = isinstance(told.get("name"), str) and isinstance(told.get("vers"), str)
-    if not texts or not isinstance(told.get("yanked", False), bool):
+    texts = isinstance(record.get("name"), str) and isinstance(record.get("vers"), str)
+    if not texts or not isinstance(record.get("yanked", False), bool):
         raise ValueError("no line of an index")
-    if not isinstance(told.get("rust_version", ""), str | None):
+    if not isinstance(record.get("rust_version", ""), str | None):
         raise ValueError("a Rust version that is no text")
-    return told
+    return record
 
 
 def read_index(text):
@@ -160,10 +160,10 @@ def read_index(text):
     for line in text.split(b"\n"):
         if not line.strip(b" \t\r"):
             continue
-        told = read_line(line)
-        version = semver.read_version(told["vers"])
-        if version and not told.get("yanked", False):
-            offers.setdefault(told["name"], []).append(Offer(version, rust_numbers(told.get("rust_version"))))
+        record = read_line(line)
+        version = semver.read_version(record["vers"])
+        if version and not record.get("yanked", False):
+            offers.setdefault(record["name"], []).append(Offer(version, rust_numbers(record.get("rust_version"))))
     return offers
 
 

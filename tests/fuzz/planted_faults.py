@@ -60,36 +60,36 @@ def patch_table_raised(run):
 
 @fault
 def never_lower_ignored(run):
-    run.go(without(run.words, "--never-lower"))
+    run.go(without(run.args, "--never-lower"))
 
 
 @fault
 def exclude_ignored(run):
-    run.go(without(run.words, "--exclude"))
+    run.go(without(run.args, "--exclude"))
 
 
 @fault
 def pinned_ignored(run):
-    run.go([word for word in run.words if word != "--pinned"])
+    run.go([arg for arg in run.args if arg != "--pinned"])
 
 
 @fault
 def rust_version_ignored(run):
     if run.has("--rust-version"):
-        run.go([*without(run.words, "--rust-version"), "--ignore-rust-version"])
+        run.go([*without(run.args, "--rust-version"), "--ignore-rust-version"])
     else:
         run.go()
 
 
 @fault
 def own_rust_version_ignored(run):
-    run.go(run.words if run.has("--rust-version", "--ignore-rust-version", "set-version", "add", "rm")
-           or run.words[:1] != ["upgrade"] else [*run.words, "--ignore-rust-version"])
+    run.go(run.args if run.has("--rust-version", "--ignore-rust-version", "set-version", "add", "rm")
+           or run.args[:1] != ["upgrade"] else [*run.args, "--ignore-rust-version"])
 
 
 @fault
 def compatible_ignored(run):
-    run.go([re.sub("^--compatible=(ignore|false)$", "--compatible", word) for word in run.words])
+    run.go([re.sub("^--compatible=(ignore|false)$", "--compatible", arg) for arg in run.args])
 
 
 @fault
@@ -116,7 +116,7 @@ def first_version_lost(run):
 def written_at_a_dry_run(run):
     run.go()
     if run.has("-n", "--dry-run"):
-        subprocess.run([run.program, *without(run.words, "-n", "--dry-run", "--diff")], capture_output=True,
+        subprocess.run([run.program, *without(run.args, "-n", "--dry-run", "--diff")], capture_output=True,
                        check=False)
 
 
@@ -124,12 +124,12 @@ def written_at_a_dry_run(run):
 def written_at_a_check(run):
     run.go()
     if run.has("--check"):
-        subprocess.run([run.program, *without(run.words, "--check")], capture_output=True, check=False)
+        subprocess.run([run.program, *without(run.args, "--check")], capture_output=True, check=False)
 
 
 @fault
 def locked_ignored(run):
-    run.go(without(run.words, "--locked"))
+    run.go(without(run.args, "--locked"))
 
 
 @fault
@@ -164,18 +164,18 @@ def second_run_changes(run):
 
 @fault
 def patch_for_minor(run):
-    run.go([{"minor": "patch", "--bump=minor": "--bump=patch"}.get(word, word) for word in run.words])
+    run.go([{"minor": "patch", "--bump=minor": "--bump=patch"}.get(arg, arg) for arg in run.args])
 
 
 @fault
 def build_metadata_lost(run):
-    run.go([word for word in run.words if not word.startswith("--metadata=")])
+    run.go([arg for arg in run.args if not arg.startswith("--metadata=")])
 
 
 @fault
 def dependents_left(run):
     run.go()
-    if run.words[:1] == ["set-version"]:
+    if run.args[:1] == ["set-version"]:
         for path in run.written():
             old = run.before[path]
             new = re.sub(rb'((?:path|version)\s*=\s*)"\^', rb'\1"^', path.read_bytes())

@@ -132,5 +132,5 @@ def calls_lost(run):
 @fault
 def look_lost(run):
     run.go()
-    if run.words[:1] == ["looks"]:
+    if run.args[:1] == ["looks"]:
         run.out = b"\n".join(run.out.split(b"\n")[1:])

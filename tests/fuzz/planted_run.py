@@ -11,14 +11,14 @@ FLAGS = ("-n", "--dry-run", "--locked", "--never-lower", "--check", "--diff")
 class Run:
     """A run of the program, whose parts a fault changes."""
 
-    def __init__(self, program, words):
-        self.program, self.words = program, words
+    def __init__(self, program, args):
+        self.program, self.args = program, args
         self.before = manifests()
         self.status, self.out, self.err = 0, b"", b""
 
-    def go(self, words=None):
+    def go(self, args=None):
         """Runs the program."""
-        done = subprocess.run([self.program, *(self.words if words is None else words)], capture_output=True,
+        done = subprocess.run([self.program, *(self.args if args is None else args)], capture_output=True,
                               check=False)
         self.status, self.out, self.err = done.returncode, done.stdout, done.stderr
 
@@ -26,9 +26,9 @@ class Run:
         """The manifests that the run changed."""
         return [path for path, text in manifests().items() if self.before.get(path) != text]
 
-    def has(self, *words):
+    def has(self, *args):
         """Whether one of these arguments stands there."""
-        return any(word.split("=")[0] in words for word in self.words)
+        return any(arg.split("=")[0] in args for arg in self.args)
 
 
 def manifests():
@@ -41,13 +41,13 @@ def edit(path, old, new, count=1):
     path.write_bytes(re.sub(old, new, path.read_bytes(), count=count, flags=re.MULTILINE))
 
 
-def without(words, *names):
+def without(args, *names):
     """The arguments without options of these names, and without their values where they stand behind them."""
     left, skip = [], False
-    for word in words:
-        if not skip and word.split("=")[0] not in names:
-            left.append(word)
-        skip = not skip and word in names and word not in FLAGS
+    for arg in args:
+        if not skip and arg.split("=")[0] not in names:
+            left.append(arg)
+        skip = not skip and arg in names and arg not in FLAGS
     return left
 
 

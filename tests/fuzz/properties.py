@@ -12,7 +12,7 @@ import messages
 from confined import changes
 
 ERROR = re.compile(rb"^Error: ", re.MULTILINE)
-# (names that no entry has are told behind the write)
+# (names that no entry has are reported after the write)
 MISSING = re.compile(rb"^Error: (dependency .* doesn't|dependencies .* don't) exist$", re.MULTILINE)
 ABORTED = re.compile(rb"^warning: aborting (upgrade|set-version) due to dry run\n", re.MULTILINE)
 CALLS = re.compile(rb"^ +Run .*\n", re.MULTILINE)
@@ -27,8 +27,8 @@ def changed_files(room, run):
                   if room.begin.get(name) != run.files.get(name))
 
 
-def told(run):
-    """What a run said, for a fault's line."""
+def shown(run):
+    """The result of a run, for the line of a fault."""
     return f"status {run.status}, {run.out[-300:]!r}, {run.err[-600:]!r}"
 
 
@@ -39,19 +39,19 @@ def general(room, run, may_check=False, may_write=True):
     if run.status < 0:
         yield f"ended by signal {-run.status}" if run.status > -1000 else "no end within 30 seconds"
     elif run.status not in (0, 1, 2):
-        yield f"a status that is none: {told(run)}"
+        yield f"a status that is none: {shown(run)}"
     if run.status == 1 and not error and not may_check:
-        yield f"status 1 without an error: {told(run)}"
+        yield f"status 1 without an error: {shown(run)}"
     if run.status != 1 and error:
-        yield f"an error, and not status 1: {told(run)}"
+        yield f"an error, and not status 1: {shown(run)}"
     if run.status == 2 and not re.search(rb"^error: |^Usage:", run.err, re.MULTILINE):
-        yield f"status 2 without a usage error: {told(run)}"
+        yield f"status 2 without a usage error: {shown(run)}"
     if run.err.count(b"Error: ") > 1:
-        yield f"two errors: {told(run)}"
+        yield f"two errors: {shown(run)}"
     if changed and not may_write:
         yield f"files changed where none may: {changed}"
     elif changed and run.status and not missing:
-        yield f"files changed by a run that failed: {changed}: {told(run)}"
+        yield f"files changed by a run that failed: {changed}: {shown(run)}"
     if run.seconds > room.bound():
         yield f"took {run.seconds:.2f} s of a processor, where {room.bound():.2f} s are allowed"
 
@@ -62,23 +62,23 @@ def same_report(one, other, what):
     def bare(run):
         return run.out, ABORTED.sub(b"", CALLS.sub(b"", run.err))
     if bare(one) != bare(other):
-        yield f"{what} prints something else: {told(one)}; {told(other)}"
+        yield f"{what} prints something else: {shown(one)}; {shown(other)}"
 
 
-def dry_runs(room, words, real, changed):
+def dry_runs(room, args, real, changed):
     """What is wrong with the dry run and the check of a run that wrote; `changed` has the files that it set
     something in."""
-    dry, check = room.run([*words, "-n"]), room.run([*words, "--check"])
+    dry, check = room.run([*args, "-n"]), room.run([*args, "--check"])
     yield from general(room, dry, may_write=False)
     yield from general(room, check, may_check=bool(changed), may_write=False)
     yield from same_report(real, dry, "a dry run")
     yield from same_report(dry, check, "a check")
     if dry.status != real.status:
-        yield f"a dry run ends otherwise: {told(dry)}"
+        yield f"a dry run ends otherwise: {shown(dry)}"
     if real.status == 0 and check.status != (1 if changed else 0):
-        yield f"a check of a run that changes {changed}: {told(check)}"
+        yield f"a check of a run that changes {changed}: {shown(check)}"
     if real.status == 0 and not ABORTED.search(dry.err):
-        yield f"a dry run without its note: {told(dry)}"
+        yield f"a dry run without its note: {shown(dry)}"
 
 
 def confined_changes(room, run, allowed):
@@ -94,7 +94,7 @@ def confined_changes(room, run, allowed):
 
 
 def applied(room, diff, by_git):
-    """The manifests after a diff is applied, and what the tool said where it failed."""
+    """The manifests after a diff is applied, and what the tool printed where it failed."""
     folder = tempfile.mkdtemp(prefix="fuzz-", dir=os.path.dirname(room.path))
     try:
         for name, text in room.begin.items():
@@ -111,24 +111,24 @@ def applied(room, diff, by_git):
         for name in room.begin:
             with open(os.path.join(folder, name), "rb") as file:
                 files[name] = file.read()
-        said = f"{command[0]}: {done.stdout[-200:]!r} {done.stderr[-200:]!r}"
-        return files, said if done.returncode else ""
+        output = f"{command[0]}: {done.stdout[-200:]!r} {done.stderr[-200:]!r}"
+        return files, output if done.returncode else ""
     finally:
         shutil.rmtree(folder, ignore_errors=True)
 
 
-def diffs(room, words, real, choose):
+def diffs(room, args, real, choose):
     """What is wrong with the diff of a run that wrote. It is applied by one tool, or by both where all checks
     are made."""
-    run = room.run([*words, "--diff", "-n"])
+    run = room.run([*args, "--diff", "-n"])
     yield from general(room, run, may_write=False)
     if real.status:
         return
     start = re.search(rb"^--- ", run.out, re.MULTILINE)
     if bool(start) != bool(changed_files(room, real)):
-        yield f"a diff where nothing changes, or none where something does: {told(run)}"
+        yield f"a diff where nothing changes, or none where something does: {shown(run)}"
     if run.out[:start.start() if start else None] != real.out:
-        yield f"a diff's run prints another table: {told(run)}"
+        yield f"a diff's run prints another table: {shown(run)}"
     if start:
         yield from hunks.faults(run.out[start.start():], room.begin, real.files)
     by_git = choose(0.3)
@@ -141,12 +141,12 @@ def diffs(room, words, real, choose):
             yield f"the diff gives other files: {names} {run.out!r}"
 
 
-def read_messages(room, words, real, command):
+def read_messages(room, args, real, command):
     """The messages of a run, and what is wrong with them."""
-    run = room.run([*words, "--message-format", "json", "-n"])
+    run = room.run([*args, "--message-format", "json", "-n"])
     faults = list(general(room, run, may_write=False))
     if run.status != real.status:
-        faults.append(f"with messages a run ends otherwise: {told(run)}")
+        faults.append(f"with messages a run ends otherwise: {shown(run)}")
     try:
         read = messages.read(run.out)
     except ValueError as error:

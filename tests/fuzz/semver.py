@@ -32,7 +32,7 @@ class Version:
 
 
 def identifiers(pre):
-    """What pre-releases are ordered by: numbers before words, and numbers by their value."""
+    """What pre-releases are ordered by: numbers before names, and numbers by their value."""
     return [(0, int(part), "") if part.isdigit() else (1, 0, part) for part in pre.split(".") if pre]
 
 

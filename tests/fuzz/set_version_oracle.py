@@ -18,8 +18,8 @@ class Fails(Exception):
 
 
 @dataclass
-class Asked:
-    """What the arguments ask for."""
+class Options:
+    """The options of a command line of `set-version`."""
     level: str = "release"
     target: semver.Version | None = None
     build: str | None = None
@@ -38,48 +38,48 @@ class Member:
     inherits: bool
 
 
-def asked_for(words):
-    """What the arguments ask for; Unknown where they are not those that a case has."""
-    asked, at, seen = Asked(), 0, set()
-    while at < len(words):
-        word, value = words[at], None
+def options_of(args):
+    """The options of these arguments; Unknown where they have a form that no case has."""
+    options, at, seen = Options(), 0, set()
+    while at < len(args):
+        arg, value = args[at], None
         at += 1
-        if word[:2] in ("-p", "-m") and len(word) > 2:
-            word, value = word[:2], word[2:]
-        elif word.startswith("--") and "=" in word:
-            word, value = word.split("=", 1)
-        elif word in ("--bump", "-p", "--package", "-m", "--metadata", "--exclude", "--metadata-json"):
-            if at == len(words) or words[at].startswith("-"):
+        if arg[:2] in ("-p", "-m") and len(arg) > 2:
+            arg, value = arg[:2], arg[2:]
+        elif arg.startswith("--") and "=" in arg:
+            arg, value = arg.split("=", 1)
+        elif arg in ("--bump", "-p", "--package", "-m", "--metadata", "--exclude", "--metadata-json"):
+            if at == len(args) or args[at].startswith("-"):
                 raise Unknown("an option without its value")
-            value, at = words[at], at + 1
-        if value == "" or word in seen and word not in ("-p", "--package", "--exclude"):
+            value, at = args[at], at + 1
+        if value == "" or arg in seen and arg not in ("-p", "--package", "--exclude"):
             raise Unknown("an option twice, or with an empty value")
-        seen.add(word)
-        take(asked, word, value)
-    selections = ({"--workspace"} & seen, {"--all"} & seen, asked.packages)
-    if sum(map(bool, selections)) > 1 or asked.target and "--bump" in seen:
+        seen.add(arg)
+        take(options, arg, value)
+    selections = ({"--workspace"} & seen, {"--all"} & seen, options.packages)
+    if sum(map(bool, selections)) > 1 or options.target and "--bump" in seen:
         raise Unknown("options that exclude each other")
-    return asked
+    return options
 
 
-def take(asked, word, value):
+def take(options, arg, value):
     """Takes one argument."""
-    if word == "--bump" and value in LEVELS:
-        asked.level = value
-    elif word in ("-m", "--metadata"):
-        asked.build = value
-    elif word in ("-p", "--package"):
-        asked.packages.append(value)
-    elif word == "--exclude":
-        asked.excluded.append(value)
-    elif word in ("--workspace", "--all"):
-        asked.every = True
-    elif word == "--metadata-json":
+    if arg == "--bump" and value in LEVELS:
+        options.level = value
+    elif arg in ("-m", "--metadata"):
+        options.build = value
+    elif arg in ("-p", "--package"):
+        options.packages.append(value)
+    elif arg == "--exclude":
+        options.excluded.append(value)
+    elif arg in ("--workspace", "--all"):
+        options.every = True
+    elif arg == "--metadata-json":
         pass
-    elif not word.startswith("-") and not asked.target and semver.read_version(word):
-        asked.target = semver.read_version(word)
+    elif not arg.startswith("-") and not options.target and semver.read_version(arg):
+        options.target = semver.read_version(arg)
     else:
-        raise Unknown(f"the argument {word}")
+        raise Unknown(f"the argument {arg}")
 
 
 # ---- versions
@@ -89,10 +89,10 @@ def next_phase(phase, version):
     if not version.pre:
         major, minor, patch = version.numbers
         return semver.Version((major, minor, patch + 1), f"{phase}.1")
-    word, _, number = version.pre.partition(".")
-    if number and not number.isdigit() or word in PHASES and PHASES.index(word) > PHASES.index(phase):
+    arg, _, number = version.pre.partition(".")
+    if number and not number.isdigit() or arg in PHASES and PHASES.index(arg) > PHASES.index(phase):
         raise Fails("a pre-release that has no next one")
-    return replace(version, pre=f"{phase}.{int(number or 0) + 1 if word == phase else 1}")
+    return replace(version, pre=f"{phase}.{int(number or 0) + 1 if arg == phase else 1}")
 
 
 def by_level(level, version):
@@ -106,19 +106,19 @@ def by_level(level, version):
                            "patch": (major, minor, patch + 1)}[level])
 
 
-def bumped(asked, version):
+def bumped(options, version):
     """The next version; none where it stays."""
-    if asked.build is not None and semver.read_version(f"1.0.0+{asked.build}") is None:
-        raise (Unknown if asked.target else Fails)("build metadata that are none")
-    if asked.target:
-        if asked.target.key() < version.key():
+    if options.build is not None and semver.read_version(f"1.0.0+{options.build}") is None:
+        raise (Unknown if options.target else Fails)("build metadata that are none")
+    if options.target:
+        if options.target.key() < version.key():
             raise Fails("a lower version")
-        if asked.target.key() == version.key():
+        if options.target.key() == version.key():
             return None
-        other = version.build if asked.build is None else asked.build
-        return replace(asked.target, build=asked.target.build or other)
-    made = by_level(asked.level, version)
-    made = made if asked.build is None else replace(made, build=asked.build)
+        other = version.build if options.build is None else options.build
+        return replace(options.target, build=options.target.build or other)
+    made = by_level(options.level, version)
+    made = made if options.build is None else replace(made, build=options.build)
     return None if made == version else made
 
 
@@ -137,10 +137,10 @@ def inherits(tree):
 
 def read_members(files, here):
     """The members, in the order of the metadata's packages, with the trees of all manifests."""
-    told = json.loads(files["metadata.json"])
+    listed = json.loads(files["metadata.json"])
     trees, members = {"ws/Cargo.toml": tree_of(files["ws/Cargo.toml"])}, []
-    for package in told["packages"]:
-        if package["id"] in told["workspace_members"]:
+    for package in listed["packages"]:
+        if package["id"] in listed["workspace_members"]:
             path = package["manifest_path"].removeprefix(here + "/")
             trees[path] = tree_of(files[path])
             members.append(Member(package["name"], semver.read_version(package["version"]), path,
@@ -148,18 +148,18 @@ def read_members(files, here):
     return members, trees
 
 
-def chosen(asked, members):
+def chosen(options, members):
     """The members that get a new version."""
-    every = asked.every or not asked.packages
-    if set(asked.packages) - {member.name for member in members}:
+    every = options.every or not options.packages
+    if set(options.packages) - {member.name for member in members}:
         raise Fails("a name that no member has")
     mine = [one for one in members
-            if (one.name not in asked.excluded if every else one.name in asked.packages)]
+            if (one.name not in options.excluded if every else one.name in options.packages)]
     sharing = any(one.inherits for one in mine)
     added = [one for one in members if sharing and one.inherits and one not in mine]
-    if any(one.name in asked.excluded for one in added):
+    if any(one.name in options.excluded for one in added):
         raise Fails("an excluded member that inherits")
-    return mine + added, sharing or every and not asked.excluded
+    return mine + added, sharing or every and not options.excluded
 
 
 def followers(path, tree, nexts):
@@ -177,23 +177,23 @@ def followers(path, tree, nexts):
                     yield (*place, key, "version"), text, new
 
 
-def expected(words, files, here):
+def expected(args, files, here):
     """For each manifest the places that change, with what stands there then, and how many of them are
     requirements; none where the run has to fail."""
-    asked = asked_for(words)
+    options = options_of(args)
     try:
-        return planned(asked, files, here)
+        return planned(options, files, here)
     except (NoTree, Fails):
         return None, 0
 
 
-def planned(asked, files, here):
+def planned(options, files, here):
     """The same, where it does not fail."""
     members, trees = read_members(files, here)
-    mine, shared = chosen(asked, members)
+    mine, shared = chosen(options, members)
     nexts, wanted = {}, {path: {} for path in trees}
     for one in mine:
-        new = bumped(asked, one.version)
+        new = bumped(options, one.version)
         if new:
             nexts[posixpath.dirname(one.path)] = new
             if not one.inherits:
@@ -203,8 +203,8 @@ def planned(asked, files, here):
     current = semver.read_version(current) if isinstance(current, str) else None
     if current is None and (shared or any(one.inherits for one in members)):
         raise Unknown("a workspace without a version")
-    if shared and bumped(asked, current):
-        wanted["ws/Cargo.toml"]["workspace", "package", "version"] = str(bumped(asked, current))
+    if shared and bumped(options, current):
+        wanted["ws/Cargo.toml"]["workspace", "package", "version"] = str(bumped(options, current))
     count = 0
     for path, tree in trees.items():
         for place, text, new in followers(path, tree, nexts):

@@ -3,7 +3,7 @@
 import oracle
 import set_version_oracle
 from confined import NoTree, leaves, tree_of
-from properties import changed_files, confined_changes, diffs, dry_runs, general, read_messages, told
+from properties import changed_files, confined_changes, diffs, dry_runs, general, read_messages, shown
 
 
 def may_change(data):
@@ -19,10 +19,10 @@ def may_change(data):
     return found
 
 
-def expected(room, words):
+def expected(room, args):
     """What the oracle wants; none where it has no opinion."""
     try:
-        return set_version_oracle.expected(words[1:], room.begin, room.path)
+        return set_version_oracle.expected(args[1:], room.begin, room.path)
     except oracle.Unknown:
         return {}, None
 
@@ -30,31 +30,31 @@ def expected(room, words):
 def by_oracle(room, run, wanted):
     """What the oracle says against a run."""
     if wanted is None and run.status != 1:
-        yield f"the oracle wants an error: {told(run)}"
+        yield f"the oracle wants an error: {shown(run)}"
     if wanted and run.status:
-        yield f"the oracle wants no error: {told(run)}"
+        yield f"the oracle wants no error: {shown(run)}"
         return
     for name, changed in (wanted or {}).items():
         old, new = leaves(tree_of(room.begin[name])), leaves(tree_of(run.files[name]))
         for place in old.keys() | changed.keys():
             want = changed.get(place, old.get(place))
             if new.get(place) != want:
-                yield f"{name}: the oracle wants {want!r} at {place}, not {new.get(place)!r}: {told(run)}"
+                yield f"{name}: the oracle wants {want!r} at {place}, not {new.get(place)!r}: {shown(run)}"
 
 
 def faults(room, case, choose):
     """All that is wrong with new versions."""
-    real = room.run(case.words)
+    real = room.run(case.args)
     yield from general(room, real)
     yield from confined_changes(room, real, may_change)
-    wanted, count = expected(room, case.words)
+    wanted, count = expected(room, case.args)
     if case.sure or real.status != 2:
         yield from by_oracle(room, real, wanted)
-    yield from dry_runs(room, case.words, real, changed_files(room, real))
+    yield from dry_runs(room, case.args, real, changed_files(room, real))
     if choose(0.3):
-        yield from diffs(room, case.words, real, choose)
+        yield from diffs(room, case.args, real, choose)
     if choose(0.3):
-        read, wrong = read_messages(room, case.words, real, "set-version")
+        read, wrong = read_messages(room, case.args, real, "set-version")
         yield from wrong
         updated = sum(one["action"] == "Updating" for one in read if not wrong)
         if not wrong and real.status == 0 and count is not None and updated != count:

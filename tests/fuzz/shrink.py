@@ -21,8 +21,8 @@ def without_files(case):
 def without_words(case):
     """The case without one or two of its arguments, behind the subcommand."""
     for count in (2, 1):
-        for at in range(1, len(case.words) - count + 1):
-            yield replace(case, words=case.words[:at] + case.words[at + count:], sure=False)
+        for at in range(1, len(case.args) - count + 1):
+            yield replace(case, args=case.args[:at] + case.args[at + count:], sure=False)
 
 
 def parts_left(text, length):

@@ -25,7 +25,7 @@ def pieces(text):
 
 
 def literals_and_rest(text):
-    """The string literals of a text in their order, and the text with a mark in place of each."""
+    """The string literals of a text in their order, and the text with a zero byte in place of each."""
     literals, rest = [], []
     for kind, piece in pieces(text):
         if kind == "string":

@@ -8,15 +8,15 @@ import command_lines
 import oracle
 from confined import NoTree, leaves, tree_of
 from properties import (MISSING, changed_files, confined_changes, diffs, dry_runs, general, read_messages,
-                        same_report, told)
+                        same_report, shown)
 
 CRATE_NAME = re.compile(r"[A-Za-z0-9_-]+")
 
 
-def inputs(room, words):
+def inputs(room, args):
     """The manifests that an upgrade reads, each with the Rust version of its package as the metadata or it
     have it."""
-    if "--metadata-json" not in words:
+    if "--metadata-json" not in args:
         return {"ws/Cargo.toml": None}
     packages = json.loads(room.begin["metadata.json"])["packages"]
     base, found = room.path + "/", {}
@@ -69,7 +69,7 @@ def names_index(registry):
 
 def fails(room, trees, options):
     """Whether an upgrade has to fail by its configurations, or by the names and registries of its entries.
-    (Of an entry that is left out the documents do not say whether it is looked at.)"""
+    (The documents do not say whether an entry that is left out is checked.)"""
     known = configured(room)
     if known is None:
         return True
@@ -83,11 +83,11 @@ def fails(room, trees, options):
     return False
 
 
-def expected(room, words):
+def expected(room, args):
     """What an upgrade should leave: for each manifest the places that change. None where it has to fail."""
-    options = command_lines.upgrade_meaning(words[1:])
+    options = command_lines.upgrade_meaning(args[1:])
     trees = {}
-    for name in inputs(room, words):
+    for name in inputs(room, args):
         try:
             trees[name] = tree_of(room.begin[name])
         except NoTree as error:
@@ -102,25 +102,25 @@ def expected(room, words):
     except ValueError:
         return None
     found = {}
-    for name, rust in inputs(room, words).items():
+    for name, rust in inputs(room, args).items():
         rust = options.rust_version or (None if options.ignore_rust_version else
-                                        rust if "--metadata-json" in words else own_rust(trees[name]))
+                                        rust if "--metadata-json" in args else own_rust(trees[name]))
         found[name] = oracle.expected(trees[name], options, offers, rust)
     return found
 
 
-def by_oracle(room, words, run):
+def by_oracle(room, args, run):
     """What the oracle says against a run."""
     try:
-        wanted = expected(room, words)
+        wanted = expected(room, args)
     except oracle.Unknown:
         return
     if wanted is None:
         if run.status != 1:
-            yield f"the oracle wants an error: {told(run)}"
+            yield f"the oracle wants an error: {shown(run)}"
         return
     if run.status and not MISSING.search(run.err):
-        yield f"the oracle wants no error: {told(run)}"
+        yield f"the oracle wants no error: {shown(run)}"
         return
     for name, changed in wanted.items():
         try:
@@ -131,15 +131,15 @@ def by_oracle(room, words, run):
         for place in old.keys() | changed.keys():
             want = changed.get(place, old.get(place))
             if new.get(place) != want:
-                yield f"{name}: the oracle wants {want!r} at {place}, not {new.get(place)!r}: {told(run)}"
+                yield f"{name}: the oracle wants {want!r} at {place}, not {new.get(place)!r}: {shown(run)}"
 
 
-def set_places(room, words):
+def set_places(room, args):
     """The places by their manifests where a requirement is set to the text that stands there already. An
     entry's old requirement is its text before the first plus, so that one given as `NAME@1.0.0+b` is another
     one, also where `1.0.0+b` is what stands there."""
     try:
-        wanted = expected(room, words) or {}
+        wanted = expected(room, args) or {}
     except oracle.Unknown:
         wanted = {}
     found = {}
@@ -149,11 +149,11 @@ def set_places(room, words):
     return found
 
 
-def set_files(room, words, run):
+def set_files(room, args, run):
     """The names of files that a run changed, or in which it set a requirement to the text that stood
     there."""
     ended_well = not run.status or MISSING.search(run.err)
-    return sorted({*changed_files(room, run), *(name for name, places in set_places(room, words).items()
+    return sorted({*changed_files(room, run), *(name for name, places in set_places(room, args).items()
                                                 if places and ended_well)})
 
 
@@ -162,10 +162,10 @@ def without_version(place):
     return place[:-1] if place[-1] == "version" and len(place) > 2 else place
 
 
-def rows_agree(room, words, real, read):
-    """What is wrong where the messages' rows tell of other changes than those that were written."""
+def rows_agree(room, args, real, read):
+    """What is wrong where the messages' rows report other changes than those that were written."""
     written, reported = {}, {}
-    for name, places in set_places(room, words).items():
+    for name, places in set_places(room, args).items():
         written.update({(name, without_version(place)): None for place in places})
     for name in changed_files(room, real):
         old, new = leaves(tree_of(room.begin[name])), leaves(tree_of(real.files[name]))
@@ -178,110 +178,110 @@ def rows_agree(room, words, real, read):
         tree = leaves(tree_of(real.files[name]))
         reported[name, place] = tree.get((*place, "version"), tree.get(place))
         if row["new"] != reported[name, place]:
-            yield f"a row tells {row['new']!r} where {reported[name, place]!r} stands: {row}"
+            yield f"a row has {row['new']!r} where {reported[name, place]!r} stands: {row}"
     # (an entry of the key `version` has a place that ends as a member does)
     if {key for key in reported if key[1][-1] != "version"} != {key for key in written
                                                                 if key[1][-1] != "version"}:
-        yield f"rows tell of changes {sorted(reported)}, and {sorted(written)} were written"
+        yield f"rows report the changes {sorted(reported)}, and {sorted(written)} were written"
     files = sorted(os.path.relpath(one["manifest_path"], room.path) for one in read
                    if one["reason"] == "upgrade-file")
-    if files != set_files(room, words, real):
-        yield f"messages tell of the files {files}, and {set_files(room, words, real)} changed"
+    if files != set_files(room, args, real):
+        yield f"messages report the files {files}, and {set_files(room, args, real)} changed"
 
 
-def locked_run(room, words, real):
+def locked_run(room, args, real):
     """What is wrong with a run that may change nothing."""
-    run = room.run([*words, "--locked"])
-    changed = set_files(room, words, real)
+    run = room.run([*args, "--locked"])
+    changed = set_files(room, args, real)
     yield from general(room, run, may_write=False)
-    said = b"Error: cannot upgrade due to `--locked`" in run.err
-    if (real.status == 0 or MISSING.search(real.err)) and said != bool(changed):
-        yield f"--locked, where a run changes {changed}: {told(run)}"
+    refused = b"Error: cannot upgrade due to `--locked`" in run.err
+    if (real.status == 0 or MISSING.search(real.err)) and refused != bool(changed):
+        yield f"--locked, where a run changes {changed}: {shown(run)}"
 
 
-def second_run(room, words, real):
+def second_run(room, args, real):
     """What is wrong with a second run, which has to find nothing to raise (but a requirement that was
     given)."""
-    if real.status or any("@" in word and "@HERE@" not in word for word in words):
+    if real.status or any("@" in arg and "@HERE@" not in arg for arg in args):
         return
-    again = room.run(words, again=True)
+    again = room.run(args, again=True)
     if again.status:
-        yield f"a second run fails: {told(again)}"
+        yield f"a second run fails: {shown(again)}"
     for name in real.files.keys() | again.files.keys():
         if real.files.get(name) != again.files.get(name):
             yield f"a second run changes {name}: {real.files.get(name)!r}, {again.files.get(name)!r}"
 
 
-def calls_file(room, words, real):
+def calls_file(room, args, real):
     """What is wrong with the calls of `cargo update` that a run writes."""
-    run = room.run([*words, "--update-calls", "@HERE@/calls"])
+    run = room.run([*args, "--update-calls", "@HERE@/calls"])
     text = run.files.pop("calls", None)
     yield from general(room, run)
     yield from same_report(real, run, "a run with --update-calls")
     if run.files != real.files:
         yield "a run with --update-calls writes other manifests"
     if (text is None) != bool(real.status and not MISSING.search(real.err)):
-        yield f"a file of calls where none is wanted, or none: {told(run)}"
+        yield f"a file of calls where none is wanted, or none: {shown(run)}"
     calls = [" ".join(call.split("\n")) for call in (text or b"").decode().split("\n\n") if call]
     printed = re.findall(r"^ +Run `?(.*?)`?$", run.err.decode(errors="replace"), re.MULTILINE)
     if calls != printed and text is not None and not real.status:
         yield f"the calls {calls} are written, and {printed} printed"
 
 
-def by_folder(room, words, real):
-    """What is wrong where an index in a folder, laid out as `looks` says, gives another upgrade than one in a
+def by_folder(room, args, real):
+    """What is wrong where an index in a folder, laid out as `looks` prints, gives another upgrade than one in a
     file."""
-    looks = room.run(["looks", *words[1:]])
-    yield from general(room, looks, may_write=False)
+    lookups = room.run(["looks", *args[1:]])
+    yield from general(room, lookups, may_write=False)
     # (an index that cannot be read fails both, and not in the same place)
     try:
         oracle.read_index(room.begin["index.json"])
     except ValueError:
         return
-    if bool(looks.status) != bool(real.status and not MISSING.search(real.err)) and not real.status:
-        yield f"`looks` ends otherwise than an upgrade: {told(looks)}, {told(real)}"
-    if looks.status:
+    if bool(lookups.status) != bool(real.status and not MISSING.search(real.err)) and not real.status:
+        yield f"`looks` ends otherwise than an upgrade: {shown(lookups)}, {shown(real)}"
+    if lookups.status:
         return
     lines = [line for line in room.begin["index.json"].split(b"\n") if line.strip()]
     added = {"dir/README": b""} # (an index folder that is not there is a usage error)
-    for look in looks.out.decode().split("\n")[:-1]:
-        address, name, path = look.split("\t")
+    for line in lookups.out.decode().split("\n")[:-1]:
+        address, name, path = line.split("\t")
         own = [line for line in lines if oracle.read_line(line)["name"] == name]
         if own:
             added[f"dir/{address.replace('%', '%25').replace('/', '%2F')}/{path}"] = b"\n".join(own)
     begin = room.begin
     try:
         room.begin = {**begin, **added}
-        at = words.index("--index-file")
-        run = room.run([*words[:at], "--index-dir", "@HERE@/dir", *words[at + 2:]])
+        at = args.index("--index-file")
+        run = room.run([*args[:at], "--index-dir", "@HERE@/dir", *args[at + 2:]])
         left = {name: text for name, text in run.files.items() if name not in added}
     finally:
         room.begin = begin
     yield from same_report(real, run, "an index in a folder")
     if left != real.files or run.status != real.status:
-        yield f"an index in a folder gives another upgrade: {told(real)}, {told(run)}"
+        yield f"an index in a folder gives another upgrade: {shown(real)}, {shown(run)}"
 
 
 def faults(room, case, choose):
     """All that is wrong with an upgrade; `choose` says which of the more expensive runs are made."""
-    words = case.words
-    real = room.run(words)
+    args = case.args
+    real = room.run(args)
     yield from general(room, real)
     yield from confined_changes(room, real, may_change)
-    yield from second_run(room, words, real)
+    yield from second_run(room, args, real)
     if case.sure or real.status != 2:
-        yield from by_oracle(room, words, real)
-    yield from dry_runs(room, words, real, set_files(room, words, real))
+        yield from by_oracle(room, args, real)
+    yield from dry_runs(room, args, real, set_files(room, args, real))
     if choose(0.3):
-        yield from diffs(room, words, real, choose)
+        yield from diffs(room, args, real, choose)
     if choose(0.3):
-        read, wrong = read_messages(room, words, real, "upgrade")
+        read, wrong = read_messages(room, args, real, "upgrade")
         yield from wrong
         if not wrong and real.status == 0:
-            yield from rows_agree(room, words, real, read)
+            yield from rows_agree(room, args, real, read)
     if choose(0.2):
-        yield from locked_run(room, words, real)
+        yield from locked_run(room, args, real)
     if choose(0.15):
-        yield from calls_file(room, words, real)
-    if choose(0.2) and "--index-file" in words:
-        yield from by_folder(room, words, real)
+        yield from calls_file(room, args, real)
+    if choose(0.2) and "--index-file" in args:
+        yield from by_folder(room, args, real)

@@ -44,15 +44,15 @@ def entries(count, line=b'c%d = "1.0"\n'):
 
 def option(name, count, value):
     """An option so many times, each time with another value."""
-    return [word for number in range(count) for word in (name, value % number)]
+    return [arg for number in range(count) for arg in (name, value % number)]
 
 
-def single(manifest, index, words=(), config=None):
+def single(manifest, index, args=(), config=None):
     """An upgrade of one manifest."""
     files = {"Cargo.toml": manifest, "index.json": index}
     if config is not None:
         files[".cargo/config.toml"] = config
-    return files, ["upgrade", "--manifest-path", f"{HERE}/Cargo.toml", *INDEX, "-n", *words]
+    return files, ["upgrade", "--manifest-path", f"{HERE}/Cargo.toml", *INDEX, "-n", *args]
 
 
 def package(number):
@@ -62,22 +62,22 @@ def package(number):
             "manifest_path": f"/r/c{number}/Cargo.toml"}
 
 
-def members(manifests, words, index=None, packages=(), config=None, root=b"[workspace]\n", deep=""):
+def members(manifests, args, index=None, packages=(), config=None, root=b"[workspace]\n", deep=""):
     """A command over a workspace with these manifests."""
-    files, told = {"Cargo.toml": root}, []
+    files, listed = {"Cargo.toml": root}, []
     for number, text in enumerate(manifests):
         files[f"{deep}m{number}/Cargo.toml"] = text
-        told.append({"name": f"m{number}", "id": f"m{number}", "version": "0.1.0",
+        listed.append({"name": f"m{number}", "id": f"m{number}", "version": "0.1.0",
                      "manifest_path": f"{HERE}/{deep}m{number}/Cargo.toml"})
-    ids = [one["id"] for one in told]
+    ids = [one["id"] for one in listed]
     files["metadata.json"] = json.dumps({"workspace_root": HERE, "workspace_members": ids,
-                                         "packages": told + list(packages)}).encode()
+                                         "packages": listed + list(packages)}).encode()
     if index is not None:
         files["index.json"] = index
     if config is not None:
         files[".cargo/config.toml"] = config
-    return files, [words[0], "--metadata-json", f"{HERE}/metadata.json",
-                   *(INDEX if index is not None else []), "-n", *words[1:]]
+    return files, [args[0], "--metadata-json", f"{HERE}/metadata.json",
+                   *(INDEX if index is not None else []), "-n", *args[1:]]
 
 
 def upgrade(manifests, index, **more):
@@ -85,9 +85,9 @@ def upgrade(manifests, index, **more):
     return members(manifests, ["upgrade"], index, **more)
 
 
-def bump(manifests, *words):
+def bump(manifests, *args):
     """New versions for a workspace."""
-    return members(manifests, ["set-version", "--bump", "minor", *(words or ["--workspace"])])
+    return members(manifests, ["set-version", "--bump", "minor", *(args or ["--workspace"])])
 
 
 def own(number, rest=b""):
@@ -102,21 +102,21 @@ def on_path(number):
 
 def nested(count):
     """Metadata whose package has so many arrays, each 120 deep."""
-    files, words = upgrade([entries(1)], lines(1))
-    told = json.loads(files["metadata.json"])
-    told["packages"][0]["metadata"] = "@ARRAYS@"
+    files, args = upgrade([entries(1)], lines(1))
+    metadata = json.loads(files["metadata.json"])
+    metadata["packages"][0]["metadata"] = "@ARRAYS@"
     arrays = ",".join(["[" * 120 + "]" * 120] * count)
-    files["metadata.json"] = json.dumps(told).replace('"@ARRAYS@"', f"[{arrays}]").encode()
-    return files, words
+    files["metadata.json"] = json.dumps(metadata).replace('"@ARRAYS@"', f"[{arrays}]").encode()
+    return files, args
 
 
 def one_package(count):
     """Metadata that name one package as member so many times."""
-    files, words = upgrade([entries(1)], lines(1))
-    told = json.loads(files["metadata.json"])
-    told["workspace_members"] = ["m0"] * count
-    files["metadata.json"] = json.dumps(told).encode()
-    return files, words
+    files, args = upgrade([entries(1)], lines(1))
+    metadata = json.loads(files["metadata.json"])
+    metadata["workspace_members"] = ["m0"] * count
+    files["metadata.json"] = json.dumps(metadata).encode()
+    return files, args
 
 
 def registries(count, address=b"file:///r"):

@@ -9,7 +9,7 @@
 
 static long micros(struct timeval time) { return time.tv_sec * 1000000L + time.tv_usec; }
 
-int main(int count, char **words) {
+int main(int count, char **args) {
     struct rlimit seconds = {120, 121};
     struct rusage used;
     int status;
@@ -18,11 +18,11 @@ int main(int count, char **words) {
     if (child < 0) return 3;
     if (child == 0) {
         setrlimit(RLIMIT_CPU, &seconds);
-        execv(words[2], words + 2);
+        execv(args[2], args + 2);
         _exit(127);
     }
     if (wait4(child, &status, 0, &used) < 0) return 3;
-    FILE *out = fopen(words[1], "w");
+    FILE *out = fopen(args[1], "w");
     if (!out) return 3;
     fprintf(out, "%d %ld %ld\n", WIFEXITED(status) ? WEXITSTATUS(status) : -WTERMSIG(status),
             micros(used.ru_utime) + micros(used.ru_stime), used.ru_maxrss);

@@ -150,14 +150,14 @@ whole() {
   cmp -s "$room/served/one/3/d/dep" "$(entry one 3/d/dep)" || fail 'the entry of dep is not the one of the registry'
   cmp -s "$room/served/one/ot/he/other" "$(entry one ot/he/other)" || fail 'the entry of other is not the one of the registry'
 }
-requests() { if [ -f "$room/asked" ]; then wc -l < "$room/asked"; else echo 0; fi; }
+requests() { if [ -f "$room/requests" ]; then wc -l < "$room/requests"; else echo 0; fi; }
 updates() { grep -E '^cargo update ' "$room/calls" || true; }
 
 # Each row in a copy of the first project, with no cache.
 all_rows() {
   local it row status failed=0 left=0 count=0 begun
   for row in ${ROWS:-$(declare -F | sed -n 's/^declare -f row_//p')}; do
-    for it in ws user tmp mode asked calls out err open served left_out; do rm -rf "${room:?}/$it"; done
+    for it in ws user tmp mode requests calls out err open served left_out; do rm -rf "${room:?}/$it"; done
     mkdir "$room/user" "$room/tmp"
     cp -R "$room/served.first" "$room/served"
     cp -R "$room/first" "$room/ws"

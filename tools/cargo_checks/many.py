@@ -35,8 +35,8 @@ for name in names[:named]:
 write(f"{top}/index/config.json", "{}")
 packages = [{"name": name, "version": "1.0.0", "id": name, "manifest_path": f"/none/{name}/Cargo.toml"} for name in names]
 own = {"name": "a", "version": "0.1.0", "id": "a", "manifest_path": f"{top}/ws/Cargo.toml"}
-said = {"workspace_root": f"{top}/ws", "workspace_members": ["a"], "packages": [own] + packages}
-write(f"{top}/metadata.json", json.dumps(said))
+metadata = {"workspace_root": f"{top}/ws", "workspace_members": ["a"], "packages": [own] + packages}
+write(f"{top}/metadata.json", json.dumps(metadata))
 write(f"{top}/cargo", f"""#!/bin/sh
 case $1 in
   metadata) cat "{top}/metadata.json" ;;

@@ -6,7 +6,7 @@
 Serves the sparse registries `one` and `two` with ETags, and the files of their crates; `files` is a registry whose index is a
 git repository at DIR/files. DIR/port gets the port, DIR/tls-port that of the same by https. DIR/certificate.pem gets a
 certificate of 127.0.0.1 that nothing trusts, DIR/key.pem its key.
-DIR/asked gets a line for each request of a client that is not cargo: its path, `sent` or `kept` (304), its user agent, what it
+DIR/requests gets a line for each request of a client that is not cargo: its path, `sent` or `unchanged` (304), its user agent, what it
 has for Authorization or `-`, its Accept-Encoding or `-`, and `proxied` where this server was its proxy. DIR/mode says what
 such a client is answered:
 
@@ -73,9 +73,9 @@ def line(name, version, needs, file):
     """The line of a version in an index."""
     deps = [{"name": other, "req": req, "features": [], "optional": False, "default_features": True, "target": None,
              "kind": "normal", "registry": None, "package": None} for other, req in needs.items()]
-    said = {"name": name, "vers": version, "deps": deps, "cksum": hashlib.sha256(file).hexdigest(), "features": {},
+    fields = {"name": name, "vers": version, "deps": deps, "cksum": hashlib.sha256(file).hexdigest(), "features": {},
             "yanked": False}
-    return json.dumps(said) + "\n"
+    return json.dumps(fields) + "\n"
 
 
 def write(path, text):
@@ -110,39 +110,39 @@ class Answers(http.server.BaseHTTPRequestHandler):
         self.wfile.write(body)
 
     def note(self, *what):
-        said = [self.headers.get(it, "-").replace(" ", "") for it in ("User-Agent", "Authorization", "Accept-Encoding")]
-        with open(room + "/asked", "a") as asked:
-            asked.write(" ".join([self.path, what[0], *said, *what[1:]]) + "\n")
+        fields = [self.headers.get(it, "-").replace(" ", "") for it in ("User-Agent", "Authorization", "Accept-Encoding")]
+        with open(room + "/requests", "a") as log:
+            log.write(" ".join([self.path, what[0], *fields, *what[1:]]) + "\n")
 
     def odd(self, mode, body, tag):
         """Answers as the mode has it, and whether it did."""
-        word, _, rest = mode.partition(" ")
+        kind, _, rest = mode.partition(" ")
         # (a mode that is written again begins anew)
         once = (self.path, os.stat(room + "/mode").st_mtime_ns) if mode else None
-        if word == "down":
+        if kind == "down":
             self.answer(503)
-        elif word == "status":
+        elif kind == "status":
             number, _, name = rest.partition(" ")
             if name and os.path.basename(self.path) != name:
                 return False
             self.answer(int(number))
-        elif word == "html":
+        elif kind == "html":
             self.answer(200, b"<html>Please log in</html>\n", '"portal"')
-        elif word == "empty":
+        elif kind == "empty":
             self.answer(200, b"", '"nothing"')
-        elif word == "cut":
+        elif kind == "cut":
             self.answer(200, body[:-20], '"cut"')
-        elif word == "partial":
+        elif kind == "partial":
             self.close_connection = True
             self.answer(200, body[:10], tag, len(body))
-        elif word == "foreign":
+        elif kind == "foreign":
             self.answer(200, body.replace(os.path.basename(self.path).encode(), b"foreign"), '"foreign"')
-        elif word == "zipped" and "gzip" in self.headers.get("Accept-Encoding", ""):
+        elif kind == "zipped" and "gzip" in self.headers.get("Accept-Encoding", ""):
             self.answer(200, gzip.compress(body), tag, more=[("Content-Encoding", "gzip")])
-        elif word == "slow":
+        elif kind == "slow":
             time.sleep(float(rest))
             return False
-        elif word == "trickle" and self.path.endswith("dep"):
+        elif kind == "trickle" and self.path.endswith("dep"):
             self.send_response(200)
             self.send_header("Content-Length", str(len(body)))
             self.end_headers()
@@ -150,17 +150,17 @@ class Answers(http.server.BaseHTTPRequestHandler):
                 time.sleep(0.5)
                 self.wfile.write(body[k * 40:(k + 1) * 40] if k < 9 else body[k * 40:])
                 self.wfile.flush()
-        elif word == "flaky" and once not in self.flaky:
+        elif kind == "flaky" and once not in self.flaky:
             self.flaky.add(once)
             self.answer(503)
-        elif word == "redirect-once" and once not in self.moved:
+        elif kind == "redirect-once" and once not in self.moved:
             self.moved.add(once)
             self.answer(302, tag='"moved"', more=[("Location", rest + self.path)])
-        elif word == "loop":
+        elif kind == "loop":
             self.answer(302, more=[("Location", self.path)])
-        elif word == "token" and self.headers.get("Authorization") != rest:
+        elif kind == "token" and self.headers.get("Authorization") != rest:
             self.answer(401)
-        elif word == "gate":
+        elif kind == "gate":
             while not os.path.exists(room + "/open"):
                 time.sleep(0.02)
             return False
@@ -179,18 +179,18 @@ class Answers(http.server.BaseHTTPRequestHandler):
         is_there = os.path.isfile(path)
         body = open(path, "rb").read() if is_there else b""
         tag = '"' + hashlib.sha256(body).hexdigest()[:16] + '"'
-        kept = is_there and self.headers.get("If-None-Match") == tag
+        unchanged = is_there and self.headers.get("If-None-Match") == tag
         if watched:
-            self.note("kept" if kept else "sent", *proxied)
+            self.note("unchanged" if unchanged else "sent", *proxied)
             if self.odd(mode, body, tag):
                 return None
         if not is_there:
             return self.answer(404)
-        if kept:
+        if unchanged:
             return self.answer(304, tag=tag)
         return self.answer(200, body, tag)
 
-    def log_message(self, *words):
+    def log_message(self, *_args):
         pass
 
 
@@ -217,8 +217,8 @@ for registry, name, versions in CRATES:
     write(f"{top}/{layout(name)}", lines.encode())
 for registry in ("one", "two", "files"):
     top = f"{room}/files" if registry == "files" else f"{room}/served/{registry}"
-    said = {"dl": f"http://127.0.0.1:{port}/dl/{registry}/{{crate}}-{{version}}"}
-    write(f"{top}/config.json", json.dumps(said).encode())
+    fields = {"dl": f"http://127.0.0.1:{port}/dl/{registry}/{{crate}}-{{version}}"}
+    write(f"{top}/config.json", json.dumps(fields).encode())
 git = ["git", "-C", room + "/files", "-c", "user.name=a", "-c", "user.email=a@b.invalid"]
 subprocess.run(["git", "init", "-q", room + "/files"], check=True)
 subprocess.run(git + ["add", "."], check=True)

@@ -20,8 +20,8 @@ PAIRS, EDITS, MEMBERS = 200, 200, 10
 LINE = b'# an edit\n'
 
 
-def start(words):
-    return subprocess.Popen(words, stdout=subprocess.DEVNULL, stderr=subprocess.PIPE)
+def start(args):
+    return subprocess.Popen(args, stdout=subprocess.DEVNULL, stderr=subprocess.PIPE)
 
 
 def pairs(workspace, counts):
@@ -31,16 +31,16 @@ def pairs(workspace, counts):
     for number in range(PAIRS):
         workspace.reset()
         runs = [start(workspace.set_version(version)) for version in ("0.2.0", "0.3.0")]
-        said = [one.communicate()[1] for one in runs]
+        output = [one.communicate()[1] for one in runs]
         state = workspace.state(two, three)
-        waited = sum(b"Blocking waiting for file lock on " in text for text in said)
+        waited = sum(b"Blocking waiting for file lock on " in text for text in output)
         counts["pairs", state[0], f"{waited} waited"] += 1
         # (0.2.0 behind 0.3.0 is refused, since `set-version` sets no lower version)
         statuses = sorted(one.returncode for one in runs)
         if len(set(state)) != 1 or state[0] == "x" or statuses not in ([0, 0], [0, 1]):
-            yield f"pair {number}: statuses {statuses}, {state}, {said}"
-        if statuses == [0, 1] and not any(b"Cannot downgrade" in text for text in said):
-            yield f"pair {number}: {said}"
+            yield f"pair {number}: statuses {statuses}, {state}, {output}"
+        if statuses == [0, 1] and not any(b"Cannot downgrade" in text for text in output):
+            yield f"pair {number}: {output}"
         if workspace.left():
             yield f"pair {number}: left are {workspace.left()}"
 
@@ -56,19 +56,19 @@ def edits(workspace, usual, counts):
         time.sleep(random.uniform(0, 1.2 * usual))
         with open(path, "ab", buffering=0) as file:
             file.write(LINE)
-        said = done.communicate()[1]
+        output = done.communicate()[1]
         text = path.read_bytes()
         counts["edits", done.returncode] += 1
         if not text.endswith(LINE):
-            yield f"edit {number}: status {done.returncode}, the line is lost: {said!r}"
-        if done.returncode == 1 and (str(path).encode() not in said or b"was changed" not in said):
-            yield f"edit {number}: {said!r}"
+            yield f"edit {number}: status {done.returncode}, the line is lost: {output!r}"
+        if done.returncode == 1 and (str(path).encode() not in output or b"was changed" not in output):
+            yield f"edit {number}: {output!r}"
         if text.removesuffix(LINE) not in (workspace.old[at], new[at]):
             yield f"edit {number}: the manifest is {text!r}"
         rest = workspace.state(workspace.old, new)
         rest = rest[:at] + rest[at + 1:]
         if len(set(rest)) != 1 or rest[0] != "01"[done.returncode == 0]:
-            yield f"edit {number}: status {done.returncode}, {rest}, {said!r}"
+            yield f"edit {number}: status {done.returncode}, {rest}, {output!r}"
         if workspace.left():
             yield f"edit {number}: left are {workspace.left()}"
 
@@ -106,8 +106,8 @@ def attacks(program, room, counts):
         stop, swapped = threading.Event(), []
         attacker = threading.Thread(target=swap, args=(folder, victim, stop, swapped))
         attacker.start()
-        words = [program, "upgrade", "--manifest-path", str(folder / "Cargo.toml"), "--index-file", str(room / "index.json")]
-        run(["strace", "-f", "-o", "/dev/null", "-e", f"inject={held}:delay_enter=300000", *words])
+        args = [program, "upgrade", "--manifest-path", str(folder / "Cargo.toml"), "--index-file", str(room / "index.json")]
+        run(["strace", "-f", "-o", "/dev/null", "-e", f"inject={held}:delay_enter=300000", *args])
         stop.set()
         attacker.join()
         seen = victim.stat()

@@ -35,19 +35,19 @@ cargo generate-lockfile 2> /dev/null
 cargo update --precise 1.0.0 dep@1.2.3 2> /dev/null
 cp -R . "$room/five"
 
-# A text with names in place of what another run has otherwise.
+# Replaces what differs between runs, such as paths and ports, with fixed names.
 named() { sed -e "s|$room/ws|/ws|g" -e "s|$base|http://registry|g" -e "s|$room|/room|g"; }
 
 step=
 fails() { echo "cargo.sh: $step: $1"; sed 's/^/  /' "$room/out" "$room/err"; exit 1; }
-runs() { # status, words of cargo
+runs() { # the wanted status, the arguments of cargo
   local wanted=$1 status=0
   shift
   step="cargo $*"
-  : > "$room/asked"
+  : > "$room/requests"
   cargo "$@" > "$room/out.raw" 2> "$room/err.raw" || status=$?
   named < "$room/out.raw" > "$room/out"
-  # (what cargo itself says of a registry or of a lock file is left out)
+  # (the messages of cargo itself on a registry or a lock file are left out)
   named < "$room/err.raw" | grep -v -E '^note: pass |^ +(Updating (crates|git|`|http|file)|Locking|Adding|Downgrading|Removing|Downloading|Downloaded|Updating [a-z0-9]+ v|Unchanged|Blocking)' \
     > "$room/err" || true
   printf '$ cargo %s\n' "$*" | cat - "$room/err" "$room/out" >> "$room/transcript"
@@ -56,11 +56,11 @@ runs() { # status, words of cargo
   [ "$status" = "$wanted" ] || fails "status $status in place of $wanted"
 }
 prints() { diff - "$room/out" > "$room/diff" || fails "$(cat "$room/diff")"; }
-tells() { # (what is said of the registries, `unhad` looks at)
-  sed '/^warning: .*sparse+http:/d' "$room/err" > "$room/told"
-  diff - "$room/told" > "$room/diff" || fails "$(cat "$room/diff")"
+warns() { # standard error is the given text, but for the warnings on registries, which `not_fetched` checks
+  sed '/^warning: .*sparse+http:/d' "$room/err" > "$room/warned"
+  diff - "$room/warned" > "$room/diff" || fails "$(cat "$room/diff")"
 }
-unhad() { # the warnings of what was not had from the two registries: what each says
+not_fetched() { # one warning for each of the two registries names the crates without an entry, with the text $1
   local registry crates
   while read -r registry crates; do
     grep -E "^warning: .*sparse\+http://registry/$registry/.*[ (]$crates(\)| \(.*)?\$" "$room/err" | grep -q -E -- "$1" ||
@@ -71,7 +71,7 @@ two dep
 END
   [ "$(grep -c '^warning: .*sparse+http:' "$room/err")" -eq 2 ] || fails 'not one warning for each registry'
 }
-looks() { # whose dependencies are looked at
+checking() { # the line on standard error for each manifest whose dependencies are checked
   for it in 'virtual workspace' a b c d e; do printf '    Checking %s'"'"'s dependencies\n' "$it"; done
 }
 calls() { printf "         Run cargo update --manifest-path /ws/Cargo.toml %s${offline:+ --offline}\n" "$@"; }
@@ -119,48 +119,48 @@ requires() { # the requirements of dep, other, third, the second dep, filed
 held() { printf '  git: local\n  latest: %s\n' "${1:-a}"; }
 # (the call for the git dependency takes dep to 1.2.3, so the next one is for that version)
 moved='--aggressive --package dep@1.2.3 --package dep@2.4.0 --package filed@1.3.0 --package other@0.2.5 --package third@1.1.0'
-whole() { looks; calls "$git" "$raised"; others "$pinned" "$incompatible" "$verbose"; held; calls "$moved"; }
+whole() { checking; calls "$git" "$raised"; others "$pinned" "$incompatible" "$verbose"; held; calls "$moved"; }
 runs 0 upgrade --dry-run
 raises
-{ looks; others "$pinned" "$incompatible" "$verbose"; held; echo 'warning: aborting upgrade due to dry run'; } | tells
+{ checking; others "$pinned" "$incompatible" "$verbose"; held; echo 'warning: aborting upgrade due to dry run'; } | warns
 unchanged
 runs 1 upgrade --locked
 raises
 {
-  looks
+  checking
   printf '%s\n' 'Error: cannot upgrade due to `--locked`' '  at /ws/Cargo.toml' '  cause: manifests that would change: 4' \
     '  help: leave out `--locked` to write them'
-} | tells
+} | warns
 unchanged
 runs 0 upgrade
 raises
-whole | tells
+whole | warns
 requires 1.2 0.2.5 1.1 2.4 1.3
 has a/Cargo.toml 'dep.workspace = true'
 has d/Cargo.toml 'a = { path = "../a", version = "0.1.0" }'
 locks '1.2.3 2.4.0'
-has "$room/asked" '/two/3/d/dep kept'
-[ "$(wc -l < "$room/asked")" -eq 4 ] || fails 'each entry is asked for once'
+has "$room/requests" '/two/3/d/dep unchanged'
+[ "$(wc -l < "$room/requests")" -eq 4 ] || fails 'each entry is requested once'
 mkdir "$room/second"
 cp -R . "$room/second"
 cargo fetch -q
 runs 0 upgrade --offline
 prints < /dev/null
 {
-  looks
+  checking
   others "$pinned" "$incompatible" "$verbose"
   printf '  git: local\n  incompatible: dep\n  latest: a, filed, third\n  pinned: other (d2)\n'
-} | tells
+} | warns
 unchanged second
-[ ! -s "$room/asked" ] || fails 'a request'
+[ ! -s "$room/requests" ] || fails 'a request'
 while IFS=: read -r mode answer; do
   echo "$mode" > "$room/mode"
   again
   if [ "$mode" = partial ]; then find "$cache" -name '*.etag' -delete; fi
   CARGO_HTTP_TIMEOUT=1 runs 0 upgrade < /dev/null
   raises
-  whole | tells
-  unhad "$answer"
+  whole | warns
+  not_fetched "$answer"
   requires 1.2 0.2.5 1.1 2.4 1.3
   locks '1.2.3 2.4.0'
 done << END
@@ -178,9 +178,9 @@ name  old req compatible latest new req
 filed 1.0     1.3.0      1.3.0  1.3    
 END
 offline=yes
-{ looks; calls "$git" '--aggressive --package filed@1.3.0'; others "$verbose"; held '4 packages'; } | tells
+{ checking; calls "$git" '--aggressive --package filed@1.3.0'; others "$verbose"; held '4 packages'; } | warns
 offline=
-unhad cached
+not_fetched cached
 requires 1.0 0.2.0 1.0 2.0 1.3
 locks '1.0.0 2.4.0'
 again
@@ -201,12 +201,12 @@ dep   2.0     2.4.0      3.0.0  3.0
 filed 1.0     1.3.0      1.3.0  1.3    
 END
 {
-  looks
+  checking
   calls "$git" "$raised"
   others "$pinned" "$verbose"
   held
   calls '--aggressive --package dep@1.0.0 --package dep@2.0.0 --package dep@3.0.0 --package filed@1.3.0 --package other@0.2.5 --package third@1.1.0'
-} | tells
+} | warns
 requires 2.0 0.2.5 1.1 3.0 1.3
 locks '1.2.3 2.0.0 3.0.0'
 again
@@ -216,7 +216,7 @@ name  old req compatible latest new req
 ====  ======= ========== ====== =======
 third 1.0     1.1.0      1.1.0  1.1.0  
 END
-{ looks; calls '--precise 1.1.0 --package third@1.1.0'; others "$verbose"; echo '  excluded: 5 packages'; } | tells
+{ checking; calls '--precise 1.1.0 --package third@1.1.0'; others "$verbose"; echo '  excluded: 5 packages'; } | warns
 requires 1.0 0.2.0 1.1.0 2.0 1.0
 locks '1.0.0 2.4.0'
 again
@@ -233,18 +233,18 @@ name  old req compatible latest new req
 filed 1.0     1.3.0      1.3.0  1.3    
 END
 {
-  looks
+  checking
   calls "$git" '--aggressive --package filed@1.3.0 --package other@0.2.5 --package third@1.1.0'
   others "$pinned" "$verbose"
   echo '  excluded: dep'
   held
-} | tells
+} | warns
 requires 1.0 0.2.5 1.1 2.0 1.3
 locks '1.2.3 2.4.0' # the dependency of third, which is brought along
 again
 runs 0 set-version --bump minor --workspace
 prints < /dev/null
-tells << END
+warns << END
    Upgrading workspace version from 0.1.0 to 0.2.0
    Upgrading a from 0.1.0 to 0.2.0 (inherited from workspace)
     Updating d's dependency from 0.1.0 to 0.2.0

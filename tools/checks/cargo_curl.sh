@@ -78,7 +78,7 @@ row_redirects() {
   run 0 upgrade -n
   shown
   [ "$(requests)" = 4 ] || fail 'no redirect was followed'
-  rm -rf "$cache" "$room/asked"
+  rm -rf "$cache" "$room/requests"
   mode loop
   run 1 upgrade -n
   says_like 'curl:? 47'
@@ -118,13 +118,13 @@ row_compressed() {
   run 0 upgrade -n
   shown
   whole
-  grep -q gzip "$room/asked" || fail 'no gzip is asked for'
+  grep -q gzip "$room/requests" || fail 'no gzip is requested'
 }
 row_user_agent() {
   run 0 upgrade -n
   local version
   version=$(cargo-edit --version | awk '{ print $2 }')
-  [ "$(grep -c " cargo-edit/$version " "$room/asked")" = 2 ] || fail "$(cat "$room/asked")"
+  [ "$(grep -c " cargo-edit/$version " "$room/requests")" = 2 ] || fail "$(cat "$room/requests")"
 }
 
 all_rows

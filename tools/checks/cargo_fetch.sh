@@ -17,7 +17,7 @@ row_revalidates() {
   whole
   [ "$(requests)" = 2 ] || fail "$(requests) requests"
   run 0 upgrade -n
-  [ "$(grep -c ' kept ' "$room/asked")" = 2 ] || fail 'an entry was sent again'
+  [ "$(grep -c ' unchanged ' "$room/requests")" = 2 ] || fail 'an entry was sent again'
 }
 
 # An answer of status 200 that is no index entry of this crate does not replace the cached entry, which this run and
@@ -129,9 +129,9 @@ row_redirected_validator() {
   shown
   whole
   [ -z "$(find "$cache" -name '*.etag')" ] || fail "a validator: $(find "$cache" -name '*.etag' -exec cat {} +)"
-  rm "$room/mode" "$room/asked"
+  rm "$room/mode" "$room/requests"
   run 0 upgrade -n
-  [ "$(grep -c ' sent ' "$room/asked")" = 2 ] || fail 'an entry was not asked for anew'
+  [ "$(grep -c ' sent ' "$room/requests")" = 2 ] || fail 'an entry was not requested again'
   [ "$(find "$cache" -name '*.etag' | wc -l)" = 2 ] || fail 'an answer without a redirect has no validator'
 }
 
@@ -168,7 +168,7 @@ row_prune() {
   touch -d '2 days ago' "$cache/.run.left"
   run 0 upgrade -n
   # (that a run used an entry shows only by its validator, which the run then wrote anew)
-  grep -q '^/one/ot/he/other kept ' "$room/asked" || fail 'the entry of other was sent again'
+  grep -q '^/one/ot/he/other unchanged ' "$room/requests" || fail 'the entry of other was sent again'
   [ -e "$used" ] || fail 'an entry that this run used is gone'
   [ -e "$validator" ] || fail 'the validator of an entry that this run used is gone'
   same "$room/validator" "$validator"
@@ -326,7 +326,7 @@ os.execvp("cargo-upgrade", ["cargo-upgrade", "upgrade"])' > "$room/out" 2> "$roo
     wait "$!"
     [ -z "$(ls -A "$room/tmp")" ] || fail "$signal: left in TMPDIR"
     [ ! -d "$cache" ] || [ -z "$(find "$cache" -name '.run*')" ] || fail "$signal: left in the cache"
-    rm -f "$room/asked"
+    rm -f "$room/requests"
   done
   unwritten
 }
@@ -349,11 +349,11 @@ row_damaged_entry() {
   missing '/one/: dep '
   silent '[.]run[.]'
   unwritten
-  rm "$room/mode" "$room/asked"
+  rm "$room/mode" "$room/requests"
   run 0 upgrade
   raised
   whole
-  grep -q '^/one/3/d/dep sent ' "$room/asked" || fail 'the entry is not fetched again'
+  grep -q '^/one/3/d/dep sent ' "$room/requests" || fail 'the entry is not fetched again'
   lacks "$room/err" "$damaged"
 }
 

@@ -56,7 +56,7 @@ $git_dependency, optional = true }" other@0.2.0 third@1.0.0 dep@1.0.0
   locks other 0.2.0
   locks third 1.1.0
 }
-# The version that is asked for of an optional dependency is locked.
+# The version that `-p` names for an optional dependency is locked.
 row_optional_precise() {
   begins 'other = { version = "0.2", optional = true }'
   locks other 0.2.5
@@ -96,7 +96,7 @@ $git_dependency }" dep@1.0.0
   says Cargo.lock
   says 'out of luck'
 }
-# A call of `cargo update` that fails: status 1, with its words, and the manifests are written.
+# A call of `cargo update` that fails: status 1, with its message, and the manifests are written.
 row_update_fails() {
   broken_cargo '*update*'
   broken 1 upgrade
@@ -114,7 +114,7 @@ row_update_calls() {
   noted 0 upgrade --update-calls=calls.txt
   [ -s calls.txt ] || fail 'no calls'
 }
-# A dry run neither makes nor changes the lock file, whichever option asks for it.
+# A dry run neither makes nor changes the lock file, whichever option selects it.
 row_dry_runs() {
   local option status
   for option in -n --dry-run --check -qn -nv; do

@@ -21,14 +21,14 @@ nowhere() { # TEXT: in no message and no file of the user's or of the temporary 
 
 row_offline() {
   run 0 upgrade -n
-  rm "$room/asked"
+  rm "$room/requests"
   CARGO_NET_OFFLINE=true run 0 upgrade -n
   shown
   [ "$(requests)" = 0 ] || fail 'a request'
 }
 row_offline_in_a_file() {
   run 0 upgrade -n
-  rm "$room/asked"
+  rm "$room/requests"
   printf '\n[net]\noffline = true\n' >> "$CARGO_HOME/config.toml"
   run 0 upgrade -n
   shown
@@ -58,14 +58,14 @@ row_proxy() {
   sed -i 's,sparse+http://[0-9.:]*/,sparse+http://registry.invalid/,' "$CARGO_HOME/config.toml"
   CARGO_HTTP_PROXY="$base" run 0 upgrade -n
   shown
-  [ "$(grep -c ' proxied$' "$room/asked")" = 2 ] || fail 'not by the proxy'
+  [ "$(grep -c ' proxied$' "$room/requests")" = 2 ] || fail 'not by the proxy'
 }
 row_proxy_in_a_file() {
   sed -i 's,sparse+http://[0-9.:]*/,sparse+http://registry.invalid/,' "$CARGO_HOME/config.toml"
   printf '\n[http]\nproxy = "%s"\n' "${base#http://}" >> "$CARGO_HOME/config.toml"
   run 0 upgrade -n
   shown
-  [ "$(grep -c ' proxied$' "$room/asked")" = 2 ] || fail 'not by the proxy'
+  [ "$(grep -c ' proxied$' "$room/requests")" = 2 ] || fail 'not by the proxy'
 }
 row_certificates() {
   sed -i "s,sparse+http://[0-9.:]*/,sparse+$safe/," "$CARGO_HOME/config.toml"
@@ -120,8 +120,8 @@ row_token() {
   cp "$room/served/one/ot/he/other" "$room/served/two/ot/he/other"
   CARGO_REGISTRIES_PRIVATE_TOKEN=s3cret run 0 upgrade -n
   shown
-  grep -q '^/one/3/d/dep .* s3cret ' "$room/asked" || fail 'no token for the registry'
-  grep -q '^/two/ot/he/other .* - ' "$room/asked" || fail 'a token for another one'
+  grep -q '^/one/3/d/dep .* s3cret ' "$room/requests" || fail 'no token for the registry'
+  grep -q '^/two/ot/he/other .* - ' "$room/requests" || fail 'a token for another one'
   nowhere s3cret
   mode token s3cret
   rm -rf "$cache"
@@ -155,7 +155,7 @@ row_token_of_the_first_definition() {
   cp "$room/served/one/3/d/dep" "$room/served/two/3/d/dep"
   export CARGO_REGISTRIES_PRIVATE_INDEX="sparse+$base/one/"
   CARGO_REGISTRIES_PRIVATE_TOKEN=s3cret run 0 upgrade -n
-  grep -q '^/two/3/d/dep .* - ' "$room/asked" || fail 'a token for an address that is no longer that of its registry'
+  grep -q '^/two/3/d/dep .* - ' "$room/requests" || fail 'a token for an address that is no longer that of its registry'
 }
 row_token_with_a_line_end() {
   private "sparse+$base/one/"
@@ -174,13 +174,13 @@ row_token_is_not_redirected() {
   private "sparse+$base/one/"
   mode "redirect-once $base/elsewhere"
   CARGO_REGISTRIES_PRIVATE_TOKEN=s3cret run 1 upgrade -n
-  ! grep -q '^/elsewhere' "$room/asked" || fail 'it follows a redirect with a token'
+  ! grep -q '^/elsewhere' "$room/requests" || fail 'it follows a redirect with a token'
   nowhere s3cret
 }
 row_token_by_plain_http() {
   private 'sparse+http://registry.invalid/one/'
   CARGO_HTTP_PROXY="$base" CARGO_REGISTRIES_PRIVATE_TOKEN=s3cret run 0 upgrade -n
-  grep -q '^/one/3/d/dep .* - ' "$room/asked" || fail 'a token by plain http to another machine'
+  grep -q '^/one/3/d/dep .* - ' "$room/requests" || fail 'a token by plain http to another machine'
 }
 
 # Registries that cannot be fetched: one line for each, status 1; with --offline their crates stay.
@@ -227,7 +227,7 @@ unread() {
 row_vendored() {
   cargo vendor --respect-source-config > "$room/log" 2>&1 || fail "cargo vendor failed: $(cat "$room/log")"
   replaced_by 'directory = "vendor"'
-  rm -f "$room/asked"
+  rm -f "$room/requests"
   unread upgrade
   unread upgrade -n
   unread upgrade --check

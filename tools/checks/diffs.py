@@ -45,20 +45,20 @@ def texts(root, paths):
     return found
 
 
-def run(root, current, words):
-    return subprocess.run([PROGRAM, *words, "--metadata-json", f"{root}/m.json"], cwd=current, capture_output=True, timeout=10)
+def run(root, current, args):
+    return subprocess.run([PROGRAM, *args, "--metadata-json", f"{root}/m.json"], cwd=current, capture_output=True, timeout=10)
 
 
-def case(top, number, name, words, folder):
+def case(top, number, name, args, folder):
     """The diff of a dry run, taken at the root, leaves what a run writes. The run is in this folder of the workspace."""
-    what = f"{words[0]} in {folder!r} of {name!r}"
+    what = f"{args[0]} in {folder!r} of {name!r}"
     root = f"{top}/{number}"
     paths = workspace(root, name)
-    if words[0] == "upgrade":
-        words = [*words, "--index-file", f"{root}/ix"]
-    shown = run(root, f"{root}/{folder}", [*words, "--dry-run", "--diff"])
+    if args[0] == "upgrade":
+        args = [*args, "--index-file", f"{root}/ix"]
+    shown = run(root, f"{root}/{folder}", [*args, "--dry-run", "--diff"])
     before = texts(root, paths)
-    done = run(root, f"{root}/{folder}", words)
+    done = run(root, f"{root}/{folder}", args)
     wanted = texts(root, paths)
     if shown.returncode or done.returncode or wanted == before:
         failed.append(f"{what}: no run\n{shown.stderr.decode()}{done.stderr.decode()}")
@@ -78,8 +78,8 @@ def alone(top):
     root = f"{top}/alone"
     put(f"{root}/a b/Cargo.toml", OLD % "m")
     put(f"{root}/ix", INDEX)
-    words = [PROGRAM, "upgrade", "--manifest-path", "a b/Cargo.toml", "--index-file", "ix", "--dry-run", "--diff"]
-    shown = subprocess.run(words, cwd=root, capture_output=True, timeout=10).stdout
+    args = [PROGRAM, "upgrade", "--manifest-path", "a b/Cargo.toml", "--index-file", "ix", "--dry-run", "--diff"]
+    shown = subprocess.run(args, cwd=root, capture_output=True, timeout=10).stdout
     if b"--- a/a b/Cargo.toml\t\n+++ b/a b/Cargo.toml\t\n" not in shown:
         failed.append(f"names from the current folder\n{shown.decode()}")
 
@@ -89,10 +89,10 @@ def main():
     try:
         number = 0
         for name in NAMES:
-            for words in [["upgrade"], ["set-version", "--bump", "minor"]]:
+            for args in [["upgrade"], ["set-version", "--bump", "minor"]]:
                 for folder in [".", name]:
                     number += 1
-                    case(top, number, name, words, folder)
+                    case(top, number, name, args, folder)
         alone(top)
     finally:
         shutil.rmtree(top)

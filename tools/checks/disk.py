@@ -1,6 +1,6 @@
 #!/usr/bin/env python3
 """disk.py PROGRAM: runs that may not write. On a disk without room, and under a limit of the size of files, the manifest
-stays as it was, the refusal is told and no file is left; with room again it is raised. A manifest that may not be written
+stays as it was, the error is reported and no file is left; with room again it is raised. A manifest that may not be written
 stays; in a folder where none may be made it is overwritten, and where it would grow on a disk without room it stays. Runs at
 once, over one manifest or a workspace of 30, wait for each other: with two indexes the later version stands in the end,
 whichever begins first."""
@@ -37,7 +37,7 @@ class Place:
             (self.folder / f"index{minor}.json").write_bytes(b'{"name":"a","vers":"1.%d.0"}\n' % minor)
         self.manifest.write_bytes(OLD)
 
-    def words(self, minor=5):
+    def args(self, minor=5):
         return [self.program, "upgrade", "--manifest-path", str(self.manifest), "--index-file",
                 str(self.folder / f"index{minor}.json")]
 
@@ -45,7 +45,7 @@ class Place:
         global tries
         tries += 1
         environment = {"HOME": str(self.folder), "PATH": os.environ["PATH"]}
-        return subprocess.run([*by, *self.words(minor), *more], capture_output=True, check=False, env=environment, **options)
+        return subprocess.run([*by, *self.args(minor), *more], capture_output=True, check=False, env=environment, **options)
 
     def faults(self, what, run, status, text):
         """What is wrong with a run that was to end so and to leave this text, and no other file."""
@@ -144,13 +144,13 @@ def at_once(place):
     global tries
     for number in range(ROUNDS):
         place.manifest.write_bytes(OLD)
-        runs = [subprocess.Popen(place.words((5, 7)[(turn + number) % 2]), stdout=subprocess.DEVNULL, stderr=subprocess.PIPE)
+        runs = [subprocess.Popen(place.args((5, 7)[(turn + number) % 2]), stdout=subprocess.DEVNULL, stderr=subprocess.PIPE)
                 for turn in range(AT_ONCE)]
         tries += AT_ONCE
         for run in runs:
-            said = run.communicate()[1]
+            output = run.communicate()[1]
             if run.returncode:
-                yield f"one of {AT_ONCE} runs at once: {said!r}"
+                yield f"one of {AT_ONCE} runs at once: {output!r}"
         text = place.manifest.read_bytes()
         if text != SEVEN or os.listdir(place.manifest.parent) != ["Cargo.toml"]:
             yield f"runs at once left {text[:26]!r}.., and {os.listdir(place.manifest.parent)}"
@@ -163,15 +163,15 @@ def workspace_at_once(program, folder):
     (folder / "index7.json").write_bytes(b'{"name":"a","vers":"1.7.0"}\n')
     manifests = Manifests(program, folder)
     seven = manifests.old.replace(b'a = "1.0"', b'a = "1.7"')
-    words = [manifests.words, [*manifests.words[:-1], str(folder / "index7.json")]]
+    args = [manifests.args, [*manifests.args[:-1], str(folder / "index7.json")]]
     for number in range(ROUNDS):
         manifests.reset()
-        runs = [subprocess.Popen(words[(turn + number) % 2], stdout=subprocess.DEVNULL, stderr=subprocess.PIPE) for turn in range(2)]
+        runs = [subprocess.Popen(args[(turn + number) % 2], stdout=subprocess.DEVNULL, stderr=subprocess.PIPE) for turn in range(2)]
         tries += 2
         for run in runs:
-            said = run.communicate()[1]
+            output = run.communicate()[1]
             if run.returncode:
-                yield f"one of two runs at once over a workspace: {said!r}"
+                yield f"one of two runs at once over a workspace: {output!r}"
         if not manifests.hold(seven) or manifests.left():
             yield f"two runs at once over a workspace left a mixture, an earlier version, or {manifests.left()} files"
 

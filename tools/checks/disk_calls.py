@@ -1,6 +1,6 @@
 #!/usr/bin/env python3
 """disk_calls.py LIBRARY PROGRAM: each call for files of a run over each of the examples fails in turn, as on a broken disk:
-paths that are looked at, files that are opened, read, written, flushed, locked, moved or removed, and what is printed.
+paths that are examined, files that are opened, read, written, flushed, locked, moved or removed, and what is printed.
 LIBRARY fails the call whose number FAIL_AT is.
 
 Call 1 fails, then 2, until a run ends without a fault. A run ends with status 0, and prints and leaves what an undisturbed one
@@ -11,37 +11,37 @@ further file is left behind it."""
 import pathlib
 import sys
 
-from memory import WORDS, in_turn
+from memory import ARGUMENTS, in_turn
 
 TEXTS = [b"Error: " + text for text in (
     b"Failed to look at a path\n", b"Failed to read a file\n", b"Failed to write updated Cargo.toml\n", b"Failed to write message\n")]
 
 
 def failed(place, number):
-    """What is wrong with a run in which a call fails, and whether it told of it and came to that."""
+    """What is wrong with a run in which a call fails, whether it reported the failure, and whether it reached the call."""
     place.reset()
     answer, seen = place.run("FAIL_AT", number)
     (status, out, err), raised = answer, place.raised()
     if raised is None:
         return "a manifest is cut, or raised before another one", False, seen
     done = answer == place.usual and status == 0 and raised == len(place.new)
-    # (where the call that fails is one that prints, the refusal may not be printed either)
+    # (where the call that fails is one that prints, the error may not be printed either)
     fronts = [err.partition(text)[0] for text in TEXTS if text in err] or [err] * (seen == "write")
-    told = status == 1 and any(place.is_front(out, front) for front in fronts)
-    if not done and not told:
+    reported = status == 1 and any(place.is_front(out, front) for front in fronts)
+    if not done and not reported:
         return f"status {status}, {raised} manifests raised, {out!r} {err!r}", False, seen
     place.reset()
     answer, _ = place.run("FAIL_AT", 0)
     if answer != place.usual or place.raised() != len(place.new) or place.files() != place.names:
         return f"the next run: {answer}, files {place.files()}", False, seen
-    return "", told, seen
+    return "", reported, seen
 
 
 def main():
-    library, program = (str(pathlib.Path(word).resolve()) for word in sys.argv[1:3])
-    for name in WORDS:
-        calls, told = in_turn(program, library, name, failed)
-        print(f"examples/{name}: {calls} calls for files fail in turn, of which {told} were told")
+    library, program = (str(pathlib.Path(arg).resolve()) for arg in sys.argv[1:3])
+    for name in ARGUMENTS:
+        calls, reported = in_turn(program, library, name, failed)
+        print(f"examples/{name}: {calls} calls for files fail in turn, of which {reported} are reported")
 
 
 if __name__ == "__main__":

@@ -22,7 +22,7 @@ QUOTED = re.compile(r"(?s)\bfrom `(crates/[\w/.]+|[\w/.]+\.rt)`[^`]*\n+```rust\n
 SPAN = re.compile(r"`([^`\n]+)`")
 LINK = re.compile(r"\[[^\]]*\]\(([^()\s]+)\)")
 PATH = re.compile(r"[\w.*@+-]+(?:/[\w.*@+-]+)*/?")
-WORD = re.compile(r"(?<![\w/.-])(?:[\w.-]+/)*[\w-]+\.md(?![\w/-])")
+TOKEN = re.compile(r"(?<![\w/.-])(?:[\w.-]+/)*[\w-]+\.md(?![\w/-])")
 
 
 def markdown_files():
@@ -67,28 +67,28 @@ def stands(pattern):
     return any(glob.glob(os.path.join(ROOT, pattern.rstrip("/") + ending)) for ending in endings)
 
 
-def candidates(path, word):
-    """The paths, from the repository's root, of which one has to be there; none for a word that names no file."""
-    first = word.split("/")[0]
+def candidates(path, token):
+    """The paths, from the repository's root, of which one has to be there; none for a token that names no file."""
+    first = token.split("/")[0]
     own = os.path.relpath(path, ROOT).split("/")
     crate = "/".join(own[:2]) if own[0] == "crates" and len(own) > 2 else None
-    if "/" in word and first in TOP:
-        return [word]
-    if "/" in word and first.isidentifier() and os.path.isdir(os.path.join(ROOT, "crates", first)):
-        rest = word[len(first) + 1:]
-        return ["crates/" + word] if rest.split("/")[0] in IN_CRATE else [
+    if "/" in token and first in TOP:
+        return [token]
+    if "/" in token and first.isidentifier() and os.path.isdir(os.path.join(ROOT, "crates", first)):
+        rest = token[len(first) + 1:]
+        return ["crates/" + token] if rest.split("/")[0] in IN_CRATE else [
             "crates/%s/%s/%s" % (first, it, rest) for it in ("src", "specs", "proofs")]
-    if "/" in word and first in IN_CRATE and crate:
-        return [os.path.join(crate, word)]
+    if "/" in token and first in IN_CRATE and crate:
+        return [os.path.join(crate, token)]
     return []
 
 
 def wrong_quotes(text):
-    """The files that an example is said to be from, and is not."""
+    """The files that an example is quoted from although they do not contain it."""
     for name, example in QUOTED.findall(text):
         with open(os.path.join(ROOT, "crates", name.removeprefix("crates/")), encoding="utf-8") as file:
             if " ".join(example.split()) not in " ".join(file.read().split()):
-                yield "an example from %s, which has other words" % name
+                yield "an example from %s, which differs from the file" % name
 
 
 def missing(path, text):
@@ -97,21 +97,21 @@ def missing(path, text):
     text = FENCE.sub("", text)
     yield from bad_links(path, text)
     if os.path.basename(path) == "CHANGELOG.md":
-        # it tells of files as they were
+        # (the changelog names files of earlier versions)
         return
     for span in SPAN.findall(text):
-        for word in re.split(r"[\s,;()\[\]{}:=]+", span):
-            word = word.rstrip(".")
-            if PATH.fullmatch(word) and ".." not in word and "out" not in word.split("/"):
-                found = candidates(path, word)
+        for token in re.split(r"[\s,;()\[\]{}:=]+", span):
+            token = token.rstrip(".")
+            if PATH.fullmatch(token) and ".." not in token and "out" not in token.split("/"):
+                found = candidates(path, token)
                 if found and not any(stands(it) for it in found):
-                    yield "`%s`, which is not there" % word
-    for word in WORD.findall(LINK.sub("", text)):
-        if word.startswith("build/"):  # what tools make there is in no clone
+                    yield "`%s`, which is not there" % token
+    for token in TOKEN.findall(LINK.sub("", text)):
+        if token.startswith("build/"):  # what tools make there is in no clone
             continue
         folders = ("", "docs", "crates/NAME", os.path.relpath(os.path.dirname(path), ROOT))
-        if not any(stands(os.path.normpath(os.path.join(it, word))) for it in folders):
-            yield "%s, which is not there" % word
+        if not any(stands(os.path.normpath(os.path.join(it, token))) for it in folders):
+            yield "%s, which is not there" % token
 
 
 def main():

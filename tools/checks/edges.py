@@ -110,7 +110,7 @@ def folders(top):
     expect("an empty index folder", done.returncode == 0, done)
 
 
-def words(top):
+def args(top):
     """Arguments, folders and variables that are not UTF-8, or not there; empty names."""
     room = Room(top)
     for name in ["--package", "--exclude"]:
@@ -120,19 +120,19 @@ def words(top):
     refused(room, "an argument", "invalid UTF-8", "upgrade", b"--manifest-path=\xff")
     for name in ["HOME", "CARGO_HOME"]:
         env = {name: os.fsdecode(b"\xff")}
-        for words in [["--help"], ["--version"], ["upgrade", "--help"], ["set-version", "--version"]]:
-            done = room.run(*words, env=env)
-            expect(f"{name} and {words}", done.returncode == 0 and done.stdout and not done.stderr, done)
+        for args in [["--help"], ["--version"], ["upgrade", "--help"], ["set-version", "--version"]]:
+            done = room.run(*args, env=env)
+            expect(f"{name} and {args}", done.returncode == 0 and done.stdout and not done.stderr, done)
     env = {"CARGO_HOME": "", "HOME": os.fsdecode(b"\xff")}
     refused(room, "HOME", "HOME is not UTF-8", *UPGRADE, env=env)
     odd = Room(top, b"odd\xff")
     gone = Room(top)
     inner = gone.at("gone")
-    for words in [["--help"], ["--version"], ["upgrade", "--help"]]:
-        done = odd.run(*words)
-        expect(f"a folder that is not UTF-8 and {words}", done.returncode == 0 and done.stdout, done)
-        done = in_gone(inner, words)
-        expect(f"a removed folder and {words}", done.returncode == 0 and done.stdout, done)
+    for args in [["--help"], ["--version"], ["upgrade", "--help"]]:
+        done = odd.run(*args)
+        expect(f"a folder that is not UTF-8 and {args}", done.returncode == 0 and done.stdout, done)
+        done = in_gone(inner, args)
+        expect(f"a removed folder and {args}", done.returncode == 0 and done.stdout, done)
     refused(odd, "a folder that is not UTF-8", "the current folder", *UPGRADE)
     done = in_gone(inner, UPGRADE)
     expect("a removed folder", done.returncode == 2 and b"the current folder" in done.stderr, done)
@@ -235,7 +235,7 @@ def limits(top):
 def main():
     top = tempfile.mkdtemp()
     try:
-        for part in [outputs, folders, words, terminals, writes, limits]:
+        for part in [outputs, folders, args, terminals, writes, limits]:
             part(top)
     finally:
         shutil.rmtree(os.fsencode(top))

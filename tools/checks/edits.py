@@ -1,7 +1,7 @@
 #!/usr/bin/env python3
 """edits.py CALLS: edits at random places of two manifests, each made by the program edit_calls (CALLS) and by Python on
 the tree that tomllib reads. Each must leave a text that reads as the old tree but at that place, and an insertion all
-bytes around one spot as they were. The places come from a fixed seed, so a failure can be repeated."""
+bytes around one place as they were. The places come from a fixed seed, so a failure can be repeated."""
 
 import copy
 import pathlib
@@ -35,23 +35,23 @@ def places(tree, here=()):
 
 
 def steps(place):
-    """The words of a place."""
+    """The arguments that name a place."""
     return ["#%d" % step if isinstance(step, int) else "." + step for step in place] + ["="]
 
 
-def words_of(value):
-    """The words of a value or an entry."""
+def args_of(value):
+    """The arguments that name a value or an entry."""
     if isinstance(value, bool):
         return ["truth", "true" if value else "false"]
     if isinstance(value, str):
-        # (no word holds a byte 0)
+        # (no argument of a program may hold a byte 0)
         return ["zeros", value.replace("\0", "\u2400")] if "\0" in value else ["text", value]
     if isinstance(value, list):
         return ["list", str(len(value)), *value]
     if value["dotted"]:
         return ["dotted"]
     members = value["members"]
-    return ["table", str(len(members)), *(word for name, member in members for word in (name, *words_of(member)))]
+    return ["table", str(len(members)), *(arg for name, member in members for arg in (name, *args_of(member)))]
 
 
 def at(tree, place):
@@ -96,21 +96,21 @@ def common(old, new):
 
 
 def choose(chance, call, tree):
-    """A place for an edit, its other words, and the tree that it means (but for a removal)."""
-    spots = list(places(tree))
+    """A place for an edit, its other arguments, and the expected tree (except for a removal)."""
+    found = list(places(tree))
     meant = copy.deepcopy(tree)
     if call == "insert":
-        place = chance.choice([spot for spot in spots if isinstance(at(tree, spot), dict)])
+        place = chance.choice([path for path in found if isinstance(at(tree, path), dict)])
         name = chance.choice([name for name in NAMES if name not in at(tree, place)])
         value = chance.choice(VALUES)
         at(meant, place)[name] = value
-        return place, [name, *words_of(value)], meant
-    place = chance.choice(spots[1:])
+        return place, [name, *args_of(value)], meant
+    place = chance.choice(found[1:])
     if call == "remove":
         return place, [], meant
     value = chance.choice(VALUES if call == "set_value" else ENTRIES)
     at(meant, place[:-1])[place[-1]] = entry_tree(value)
-    return place, words_of(value), meant
+    return place, args_of(value), meant
 
 
 def main():
@@ -125,8 +125,8 @@ def main():
             path.write_bytes(old)
             for call, count in EDITS.items():
                 for _ in range(count):
-                    place, words, meant = choose(chance, call, tree)
-                    command = [calls, str(path), call, *steps(place), *words]
+                    place, args, meant = choose(chance, call, tree)
+                    command = [calls, str(path), call, *steps(place), *args]
                     run = subprocess.run(command, capture_output=True, check=False)
                     answer, _, new = run.stdout.partition(b"\n")
                     counts[call, answer] = counts.get((call, answer), 0) + 1

@@ -1,5 +1,5 @@
-"""errors.py PROGRAM: provokes each error of the program in a workspace of three members, of which one is at fault, and looks
-for the file at fault, the entry or line, and the help in standard error. Each run has to leave every file as it was."""
+"""errors.py PROGRAM: provokes each error of the program in a workspace of three members, of which one is wrong, and
+searches standard error for the wrong file, the entry or line, and the help. Each run has to leave every file as it was."""
 
 import json
 import os
@@ -87,17 +87,17 @@ def entries(text):
     return PACKAGE % (2, "0.1.0") + "\n[dependencies]\n" + text
 
 
-def check(number, words, first, *parts, status=1, env=None, limit=None, stdout=subprocess.PIPE):
-    """Runs the program, and looks for the first line and the parts in standard error."""
+def check(number, args, first, *parts, status=1, env=None, limit=None, stdout=subprocess.PIPE):
+    """Runs the program, and compares the first line of standard error and searches it for the parts."""
     before = all_files()
-    command = [PROGRAM, *words]
+    command = [PROGRAM, *args]
     if limit is not None:
         command = ["sh", "-c", 'ulimit -v %d; exec "$@"' % limit, "", *command]
     ran = subprocess.run(
         command, stdout=stdout, stderr=subprocess.PIPE, cwd=WORKSPACE, env={"HOME": ROOM + "/home", **(env or {})}, timeout=60
     )
-    told = ran.stderr.decode(errors="replace")
-    lines = told.split("\n")
+    output = ran.stderr.decode(errors="replace")
+    lines = output.split("\n")
     wrong = []
     if ran.returncode != status:
         wrong.append("status %d and not %d" % (ran.returncode, status))
@@ -105,23 +105,23 @@ def check(number, words, first, *parts, status=1, env=None, limit=None, stdout=s
         wrong.append("no line %r" % first)
     for part in parts:
         part = part.replace("@", WORKSPACE)
-        if part not in told:
+        if part not in output:
             wrong.append("no %r" % part)
-    if number not in NO_FILE and ROOM not in told:
+    if number not in NO_FILE and ROOM not in output:
         wrong.append("no path")
     if all_files() != before:
         wrong.append("files changed")
     if wrong:
-        failures.append("%d, %s: %s\n%s" % (number, " ".join(words), "; ".join(wrong), told))
+        failures.append("%d, %s: %s\n%s" % (number, " ".join(args), "; ".join(wrong), output))
     seen.add(number)
 
 
-def upgrade(number, first, *parts, words=("--index-file", "ix"), **more):
-    check(number, ["upgrade", "--metadata-json", "m.json", *words], first, *parts, **more)
+def upgrade(number, first, *parts, args=("--index-file", "ix"), **more):
+    check(number, ["upgrade", "--metadata-json", "m.json", *args], first, *parts, **more)
 
 
-def set_version(number, words, first, *parts, **more):
-    check(number, ["set-version", "--metadata-json", "m.json", *words], first, *parts, **more)
+def set_version(number, args, first, *parts, **more):
+    check(number, ["set-version", "--metadata-json", "m.json", *args], first, *parts, **more)
 
 
 def manifests():
@@ -147,7 +147,7 @@ def manifests():
     check(3, ["upgrade", "--manifest-path", "m2"], "Error: Failed to look at a path", "  at @/m2\n", LOOP)
     workspace()
     check(6, ["upgrade", "--metadata-json", "none.json"], "Error: Failed to get cargo file metadata", "  at @/none.json\n")
-    upgrade(6, "Error: Failed to get cargo file metadata", "  at @/none\n", words=["--index-file", "none"])
+    upgrade(6, "Error: Failed to get cargo file metadata", "  at @/none\n", args=["--index-file", "none"])
     check(6, ["upgrade", "--manifest-path", "none"], "Error: Failed to get cargo file metadata", "  at @/none\n")
     os.remove(WORKSPACE + "/Cargo.toml")
     check(7, ["upgrade", "--manifest-path", "."], "Error: Unable to find Cargo.toml for %s" % WORKSPACE)
@@ -199,14 +199,14 @@ def versions():
 
 
 def registries():
-    """Registries that are not defined, or that no index is looked in at."""
+    """Registries that are not defined, or whose index cannot be read."""
     workspace(entries('q = "1.0"\n'))
     first = "Error: Registry scheme `sparse+https` is not supported"
-    upgrade(27, first, "  at @/m2/Cargo.toml:6:5\n", "--index-file", "--index-dir", "cargo upgrade", words=[])
+    upgrade(27, first, "  at @/m2/Cargo.toml:6:5\n", "--index-file", "--index-dir", "cargo upgrade", args=[])
     used = entries('q = { version = "1", registry = "r" }\n')
     place = "  at @/m2/Cargo.toml:6:5\n"
     workspace(used, config='[registries.r]\nindex = "file:///%ff"\n')
-    upgrade(28, "Error: invalid file path file:///%ff", place, "@/.cargo/config.toml", words=[])
+    upgrade(28, "Error: invalid file path file:///%ff", place, "@/.cargo/config.toml", args=[])
     workspace(entries('ok = "1"\n"\u00e9" = "1.0"\n'))
     upgrade(29, "Error: Invalid crate name `\u00e9`", "  at @/m2/Cargo.toml:7:7\n", "  cause: ")
     workspace(used)
@@ -235,13 +235,13 @@ def index_entries():
     upgrade(30, "Error: Invalid index line 2", "  at @/ix:2\n")
     registry = "sparse+https:%2F%2Findex.crates.io%2F"
     put("%s/dir/%s/1/q" % (WORKSPACE, registry), bad)
-    upgrade(30, "Error: Invalid index line 2", "  at @/dir/%s/1/q:2\n" % registry, "  cause: ", words=["--index-dir", "dir"])
+    upgrade(30, "Error: Invalid index line 2", "  at @/dir/%s/1/q:2\n" % registry, "  cause: ", args=["--index-dir", "dir"])
     os.remove("%s/dir/%s/1/q" % (WORKSPACE, registry))
     os.symlink("q", "%s/dir/%s/1/q" % (WORKSPACE, registry))
-    upgrade(3, "Error: Failed to read a file", "  at @/dir/%s/1/q\n" % registry, LOOP, words=["--index-dir", "dir"])
+    upgrade(3, "Error: Failed to read a file", "  at @/dir/%s/1/q\n" % registry, LOOP, args=["--index-dir", "dir"])
     workspace(entries('q = { version = "1", registry = "r" }\n'), config=REGISTRY)
     put(ROOM + "/registry/1/q", bad)
-    upgrade(30, "Error: Invalid index line 2", "  at %s/registry/1/q:2\n" % ROOM, "  cause: ", words=[])
+    upgrade(30, "Error: Invalid index line 2", "  at %s/registry/1/q:2\n" % ROOM, "  cause: ", args=[])
 
 
 def metadata():
@@ -251,17 +251,17 @@ def metadata():
     workspace()
     put(WORKSPACE + "/m.json", '{"workspace_root":\n  nothing}')
     upgrade(36, first, "  at @/m.json:2:", "  cause: ", help_line)
-    said = workspace()
-    del said["packages"][2]["manifest_path"]
-    put(WORKSPACE + "/m.json", json.dumps(said))
+    changed = workspace()
+    del changed["packages"][2]["manifest_path"]
+    put(WORKSPACE + "/m.json", json.dumps(changed))
     upgrade(36, first, "  at @/m.json\n", '  cause: `manifest_path` is not an absolute path in the package "m2"\n', help_line)
-    said = workspace()
-    said["packages"][2]["version"] = "1"
-    put(WORKSPACE + "/m.json", json.dumps(said))
+    changed = workspace()
+    changed["packages"][2]["version"] = "1"
+    put(WORKSPACE + "/m.json", json.dumps(changed))
     set_version(36, ["--bump", "minor"], first, "  at @/m.json\n", '`version` is not a version in the package "m2"')
-    said = workspace()
-    said["packages"][2]["manifest_path"] = WORKSPACE + "/m1/other.toml"
-    put(WORKSPACE + "/m.json", json.dumps(said))
+    changed = workspace()
+    changed["packages"][2]["manifest_path"] = WORKSPACE + "/m1/other.toml"
+    put(WORKSPACE + "/m.json", json.dumps(changed))
     upgrade(37, "Error: Two members share the folder %s/m1" % WORKSPACE, "  at @/m.json\n")
 
 
@@ -269,17 +269,17 @@ def deliveries():
     """Plans that are made and not carried out."""
     workspace(entries('q = "1.0"\n'))
     held = ["--index-file", "ix", "--locked"]
-    upgrade(42, "Error: cannot upgrade due to `--locked`", "  at @/m2/Cargo.toml\n", "  help: ", words=held)
+    upgrade(42, "Error: cannot upgrade due to `--locked`", "  at @/m2/Cargo.toml\n", "  help: ", args=held)
     workspace(entries('serde_json = "1.0"\n'))
     near = ["--index-file", "ix", "-n", "-p", "serde-json"]
-    upgrade(43, "Error: dependency serde-json doesn't exist", "`serde_json`", words=near)
-    upgrade(20, "Error: Invalid name `a/b`: /", words=["--index-file", "ix", "-p", "a/b"])
+    upgrade(43, "Error: dependency serde-json doesn't exist", "`serde_json`", args=near)
+    upgrade(20, "Error: Invalid name `a/b`: /", args=["--index-file", "ix", "-p", "a/b"])
     for command in ("add", "rm"):
         check(44, [command], "Error: `cargo %s` has been merged into cargo %s+ as of cargo-edit %s, either" % {
             "add": ("add", "1.62", "0.10"), "rm": ("rm", "1.66", "0.12")
         }[command])
     with open("/dev/full", "wb") as full:
-        upgrade(45, "Error: Failed to write message", "\n  at standard output\n", words=["--index-file", "ix", "-n", "--message-format", "json"], stdout=full)
+        upgrade(45, "Error: Failed to write message", "\n  at standard output\n", args=["--index-file", "ix", "-n", "--message-format", "json"], stdout=full)
         with tempfile.TemporaryDirectory() as room:
             check(45, ["fetch-plan", "--cache", room + "/cache", "--room", room, "--", "--metadata-json", "m.json"],
                   "Error: Failed to write message", "\n  at standard output\n", stdout=full)

@@ -28,15 +28,15 @@ with tempfile.TemporaryDirectory() as room:
     for length in range(len(text) + 1):
         with open(manifest, "wb") as file:
             file.write(text[:length])
-        words = [program, "upgrade", "--manifest-path", manifest, "--index-file", index]
-        done = subprocess.run(words, stdout=subprocess.DEVNULL, stderr=subprocess.PIPE, timeout=10)
+        command = [program, "upgrade", "--manifest-path", manifest, "--index-file", index]
+        done = subprocess.run(command, stdout=subprocess.DEVNULL, stderr=subprocess.PIPE, timeout=10)
         # the first line; where the text goes wrong stands below it
-        said = done.stderr.split(b"\n")[0]
+        message = done.stderr.split(b"\n")[0]
         wanted = (0, b"    Checking ") if is_document(text[:length]) else (1, b"Error: Unable to parse Cargo.toml")
         accepted += wanted[0] == 0
         with open(manifest, "rb") as file:
             stays = file.read() == text[:length]
-        if done.returncode != wanted[0] or not said.startswith(wanted[1]) or not stays:
+        if done.returncode != wanted[0] or not message.startswith(wanted[1]) or not stays:
             wrong.append("%d bytes: status %d, %s" % (length, done.returncode, done.stderr))
 print("\n".join(wrong + ["%d fronts, of which %d are manifests; %d judged otherwise" % (len(text) + 1, accepted, len(wrong))]))
 sys.exit(1 if wrong or accepted < 10 else 0)

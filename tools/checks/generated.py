@@ -100,8 +100,8 @@ def check_index_lines(check):
     _, came, _ = check.run(check.program, arguments, files | {"index.json": nested(126)})
     check.same("levels of an index line", "126 arrays", b'"latest":"1.0.0"' in came, True)
     for name, line in (("127 arrays", nested(127)), ("1000 arrays", "[" * 1000)):
-        status, _, said = check.run(check.program, arguments, files | {"index.json": line})
-        came = status, said.splitlines()[:1]
+        status, _, errors = check.run(check.program, arguments, files | {"index.json": line})
+        came = status, errors.splitlines()[:1]
         check.same("levels of an index line", name, came, (1, [b"Error: Invalid index line 1"]))
 
 
@@ -129,16 +129,16 @@ def check_many_members(check):
     _, shown, _ = check.run(check.program, arguments, files)
     *rows, summary = map(json.loads, shown.splitlines())
     paths = {row["manifest_path"] for row in rows}
-    packages = [word for call in summary["update_calls"] for word in call].count("o@1.0.0")
+    packages = [arg for call in summary["update_calls"] for arg in call].count("o@1.0.0")
     check.same("three hundred members", "all and the other", (len(paths), packages), (300, 1))
 
 
 def pieces_after(check, edits, text):
-    """The pieces in which a text is kept after edits; None if they are not the text."""
+    """The pieces that hold a text after edits; None if they are not the text."""
     arguments = [argument for edit in edits for argument in ("&", *edit)][1:]
     _, shown, _ = check.run(check.calls, ["Cargo.toml", "pieces", *arguments], {"Cargo.toml": text})
-    said, count, whole, *pieces = shown.split(b"\0")
-    is_text = said.partition(b"\n")[2] == whole == b"".join(pieces) and int(count) == len(pieces)
+    answer, count, whole, *pieces = shown.split(b"\0")
+    is_text = answer.partition(b"\n")[2] == whole == b"".join(pieces) and int(count) == len(pieces)
     return pieces if is_text else None
 
 

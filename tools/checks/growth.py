@@ -2,11 +2,11 @@
 """growth.py LIBRARY CALLS: each request for memory of a call is refused in turn. LIBRARY refuses the one whose number
 REFUSE_AT is; CALLS is the program edit_calls.
 
-Request 1 is refused, then 2, until a run ends without a refusal. Each run must answer 46, or what is wanted where nothing
+Request 1 is refused, then 2, until a run ends with no request refused. Each run must answer 46, or what is wanted where nothing
 is refused; the last must give what is wanted. After 46 the manifest that an edit was lent has its old text and shows what
 it showed, and the same edit of it then gives what is wanted; a cache still has the answer that it held, and the same call
-then gives what is wanted; of three outputs those before the refusal are whole and those behind it untouched; no output is
-written by a plan, and no further file is left. What is wanted is written here by hand."""
+then gives what is wanted; of three outputs those before the refused request are whole and those after it untouched; no
+output is written by a plan, and no further file is left. What is wanted is written here by hand."""
 
 import itertools
 import json
@@ -41,30 +41,30 @@ NEW = {"a": OLD["a"].replace(b"0.1.0", b"0.2.0"), "b": OLD["b"].replace(b"0.1.0"
 
 @dataclass
 class Call:
-    """A call: its name, its words, the files where it runs (with the folder's path for @HERE@), what it prints
-    where nothing is refused, what it may print where it met a refusal, the files that it leaves, and those that it may leave
-    behind a refusal."""
+    """A call: its name, its arguments, the files where it runs (with the folder's path for @HERE@), what it prints
+    where nothing is refused, what it may print where a request is refused, the files that it leaves, and those that it
+    may leave after a refused request."""
     what: str
-    words: list
+    args: list
     files: dict
     answer: bytes
     lacks: list
     left: dict
-    left_by_refusal: list
+    left_early: list
 
 
-def edit(what, before, views, after, *words):
+def edit(what, before, views, after, *args):
     """An edit of a manifest, which shows these views."""
     files = {"Cargo.toml": before}
     again = b"refused 46 " + LACK + b"\n" + before + views + b"done\n" + after
-    return Call(what, ["Cargo.toml", *words], files, b"done\n" + after, [again], files, [files])
+    return Call(what, ["Cargo.toml", *args], files, b"done\n" + after, [again], files, [files])
 
 
-def plan(what, answer, files, *words, held=False, **others):
+def plan(what, answer, files, *args, held=False, **others):
     """A call of a plan or a reader, with a cache that holds an answer or without one."""
     lacks = [b"refused 46 " + LACK + b"\n"] + [CACHED % 0 + answer + b"done\n"] * held
     left = {"left": files, "left_by_refusal": [files], **others}
-    return Call(what, words, files, answer + b"done\n", lacks, **left)
+    return Call(what, args, files, answer + b"done\n", lacks, **left)
 
 
 def lookup(call, answer):
@@ -100,8 +100,8 @@ def edits():
 def workspace(members):
     """The files of a workspace of these members."""
     packages = [{"name": name, "id": name, "version": "0.1.0", "manifest_path": f"@HERE@/{name}/Cargo.toml"} for name in OLD]
-    told = {"workspace_root": "@HERE@", "workspace_members": list(OLD), "packages": packages}
-    return {"metadata.json": json.dumps(told).encode(), "Cargo.toml": b'[workspace]\nmembers = ["a", "b", "c"]\n',
+    reported = {"workspace_root": "@HERE@", "workspace_members": list(OLD), "packages": packages}
+    return {"metadata.json": json.dumps(reported).encode(), "Cargo.toml": b'[workspace]\nmembers = ["a", "b", "c"]\n',
             **{f"{name}/Cargo.toml": text for name, text in members.items()}}
 
 
@@ -112,10 +112,10 @@ def plans():
     yield lookup("ranked", b"1.2.0 1.0.0+b 1.0.0+a ")
     yield plan("plan_set_version", b"".join(b"@HERE@/%s/Cargo.toml\n%s\n" % (name.encode(), text) for name, text in NEW.items()),
                workspace(OLD), "set_version", "@HERE@")
-    # behind a refusal so many of the three outputs are written
+    # (after a refused request the first outputs may be written, in their order)
     written = [{name: (NEW if number < count else OLD)[name] for number, name in enumerate(OLD)} for count in range(4)]
     yield plan("apply", b"", workspace(OLD), "apply", "@HERE@", left=workspace(NEW),
-               left_by_refusal=[workspace(members) for members in written])
+               left_early=[workspace(members) for members in written])
     yield plan("a package spec", b"serde\n", {"spec": b"serde@1.0, <2"}, "spec", "spec")
 
 
@@ -132,9 +132,9 @@ def run(program, call, library, number):
         room, seen = pathlib.Path(folder) / "in", pathlib.Path(folder) / "seen"
         room.mkdir()
         lay_out(room, call.files)
-        words = [word.replace("@HERE@", str(room)) for word in call.words]
+        args = [arg.replace("@HERE@", str(room)) for arg in call.args]
         environment = {"LD_PRELOAD": library, "REFUSE_AT": str(number), "REFUSE_SEEN": str(seen)}
-        done = subprocess.run([program, *words], cwd=room, env=environment, capture_output=True,
+        done = subprocess.run([program, *args], cwd=room, env=environment, capture_output=True,
                               check=False, timeout=60)
         here = os.fsencode(room)
         left = {str(path.relative_to(room)): path.read_bytes().replace(here, b"@HERE@")
@@ -143,52 +143,52 @@ def run(program, call, library, number):
 
 
 def judged(call, answer, left):
-    """What is wrong with a run, and whether it met a refusal that it told."""
+    """What is wrong with a run, and whether a request was refused and the run reported it."""
     if answer == (0, call.answer, b""):
         return "" if left == call.left else "the files", False
-    # (what is refused before an edit, as the words or the manifest, is told on standard error)
-    told = answer in [(0, lack, b"") for lack in call.lacks] or answer == (1, b"", b"Error: " + LACK + b"\n")
-    if not told:
+    # (a request before the edit, as for the arguments or the manifest, is reported on standard error)
+    reported = answer in [(0, lack, b"") for lack in call.lacks] or answer == (1, b"", b"Error: " + LACK + b"\n")
+    if not reported:
         return "neither 46 nor the usual answer", False
-    return "" if left in call.left_by_refusal else "the files", True
+    return "" if left in call.left_early else "the files", True
 
 
 def refused(pool, program, call, library):
     """How many requests were refused in turn, how many runs answered 46, and how often each text was printed."""
-    told, printed = 0, Counter()
+    reported, printed = 0, Counter()
     for first in itertools.count(1, 4 * AT_ONCE):
         runs = pool.map(lambda number: run(program, call, library, number), range(first, first + 4 * AT_ONCE))
         for number, (answer, seen, left) in enumerate(runs, first):
             fault, lacks = judged(call, answer, left)
             if fault:
                 sys.exit(f"{call.what}, request {number}: {fault}: {answer} {left}")
-            told += lacks
+            reported += lacks
             printed[answer[1]] += 1
             if not seen:
-                if lacks or not told:
-                    sys.exit(f"{call.what}: " + ("a run without a refusal answered 46" if lacks else "no refusal was told"))
-                return number - 1, told, printed
+                if lacks or not reported:
+                    sys.exit(f"{call.what}: " + ("a run with no request refused answered 46" if lacks else "no run reported a refused request"))
+                return number - 1, reported, printed
 
 
 def check_cached(counts):
     """The entries are in the cache where memory runs out while they are ranked: that is at each request of `ranked` that
-    `krate`, which only looks them up, does not make."""
+    `krate`, which is the lookup alone, does not make."""
     (looked_up, _, without), (requests, _, printed) = counts["krate"], counts["ranked"]
-    kept = [sum(count for text, count in texts.items() if text.startswith(CACHED % 5)) for texts in (without, printed)]
-    if kept != [0, requests - looked_up] or requests <= looked_up:
-        sys.exit(f"krate, ranked: {looked_up} and {requests} requests, {kept} of which left entries in the cache")
+    cached = [sum(count for text, count in texts.items() if text.startswith(CACHED % 5)) for texts in (without, printed)]
+    if cached != [0, requests - looked_up] or requests <= looked_up:
+        sys.exit(f"krate, ranked: {looked_up} and {requests} requests, {cached} of which left entries in the cache")
 
 
 def main():
-    library, program = (str(pathlib.Path(word).resolve()) for word in sys.argv[1:3])
+    library, program = (str(pathlib.Path(arg).resolve()) for arg in sys.argv[1:3])
     counts = {}
     with ThreadPoolExecutor(AT_ONCE) as pool:
         for call in [*edits(), *plans()]:
-            counts[call.what] = requests, told, _ = refused(pool, program, call, library)
-            print(f"{call.what}: {requests} requests refused in turn, {told} answers 46")
+            counts[call.what] = requests, reported, _ = refused(pool, program, call, library)
+            print(f"{call.what}: {requests} requests refused in turn, {reported} answers 46")
     check_cached(counts)
     print(f"{sum(requests for requests, _, _ in counts.values())} requests for memory refused in turn, over {len(counts)} "
-          f"calls, {sum(told for _, told, _ in counts.values())} answers 46")
+          f"calls, {sum(reported for _, reported, _ in counts.values())} answers 46")
 
 
 if __name__ == "__main__":

@@ -1,7 +1,7 @@
 #!/usr/bin/env python3
 """hostile.py PROGRAM CALLS [--table]: texts as a hostile author would write them, for each reader: manifests, index lines,
-configurations, metadata, versions, addresses and words under PROGRAM, and words that no command line takes under CALLS, the
-program edit_calls. Each must end with the status and the text that its row wants, on a stack of a megabyte, within
+configurations, metadata, versions, addresses and arguments under PROGRAM, and texts that no command line takes under CALLS,
+the program edit_calls. Each must end with the status and the text that its row wants, on a stack of a megabyte, within
 200 MB of memory (addresses, not only what is touched) for a text of up to a megabyte, and within SECONDS of a processor for
 each megabyte, a second at least. No file changes unless its row says so. --table prints a line for each row: what, bytes,
 status, text, seconds for each megabyte."""
@@ -61,11 +61,11 @@ def tried(row, program, calls):
         files = {name: text.replace(b"@HERE@", folder.encode()) for name, text in files.items()}
         put(room, files)
         megabytes = sum(len(text) for text in files.values()) / 1e6
-        words = [calls if row.calls else program, *(word.replace("@HERE@", folder) for word in row.words)]
+        args = [calls if row.calls else program, *(arg.replace("@HERE@", folder) for arg in row.args)]
         environment = {"HOME": str(room / "home"), "PATH": "/usr/bin:/bin"}
         start = time.perf_counter()
         try:
-            run = subprocess.run(words, capture_output=True, check=False, cwd=room, env=environment,
+            run = subprocess.run(args, capture_output=True, check=False, cwd=room, env=environment,
                                  preexec_fn=bounded(megabytes), timeout=60)
         except subprocess.TimeoutExpired:
             return f"{row.what}: no end", [f"{row.what}: not done within 60 seconds"]
@@ -77,7 +77,7 @@ def tried(row, program, calls):
 
 
 def main():
-    program, calls = [word for word in sys.argv[1:] if word != "--table"]
+    program, calls = [arg for arg in sys.argv[1:] if arg != "--table"]
     table = list(rows())
     with ThreadPoolExecutor(2) as pool:
         done = list(pool.map(lambda row: tried(row, program, calls), table))

@@ -1,4 +1,4 @@
-"""Rows of hostile.py: entries of manifests, with the index lines, configurations and words that they meet."""
+"""Rows of hostile.py: entries of manifests, with the index lines, configurations and arguments that they meet."""
 
 from hostile_texts import CHECKING, NO_CONFIG, manifest, numbered
 
@@ -22,13 +22,13 @@ def requirement_rows():
     x2 = lambda: b'{"name":"x","vers":"2.0.0"}\n'
     for what, text in (("a number past 64 bits", b"18446744073709551616"), ("33 comparators", b", ".join([b"1"] * 33)),
                        ("a dot without a number", b"1."), ("a byte of zero", b"1\\u0000")):
-        said = keeping(b"x", text.replace(b"\\u0000", b"\0"))
-        yield manifest(what + " in a requirement", lambda text=text: TABLE + b'x = "%s"\n' % text, said=said, index=x2)
+        output = keeping(b"x", text.replace(b"\\u0000", b"\0"))
+        yield manifest(what + " in a requirement", lambda text=text: TABLE + b'x = "%s"\n' % text, output=output, index=x2)
     yield manifest("32 comparators", lambda: TABLE + b'x = "%s"\n' % b", ".join([b"1"] * 32), index=x2,
-                   said=b"Re-run with `--incompatible`")
+                   output=b"Re-run with `--incompatible`")
     for what, text in (("500,000 comparators", b"1," * 500_000), ("a requirement of a megabyte of digits", b"1" * 1_000_000),
                        ("a megabyte of signs", b">" * 1_000_000), ("a pre-release of a megabyte", b"1.0.0-" + b"a." * 500_000)):
-        yield manifest(what, lambda text=text: TABLE + b'x = "%s"\n' % text, said=b"warning: keeping x, unreadable requirement `",
+        yield manifest(what, lambda text=text: TABLE + b'x = "%s"\n' % text, output=b"warning: keeping x, unreadable requirement `",
                        index=x2)
     yield manifest("a requirement behind a megabyte of blanks", lambda: TABLE + b'x = "' + b" " * 1_000_000 + b'1.0"\n',
                    index=lambda: b'{"name":"x","vers":"1.5.0"}\n', stays=False)
@@ -41,20 +41,20 @@ def entry_rows():
     yield manifest("20,000 entries, and a line for each", entries(20_000, b'c%d = "1.0"\n'), stays=False,
                    index=lines(20_000, b'{"name":"c%d","vers":"1.2.3"}\n'))
     yield manifest("20,000 entries of one crate", entries(20_000, b'c%d = { package = "x", version = "1" }\n'),
-                   index=lines(1, b'{"name":"x","vers":"1.2.%d"}\n'), said=CHECKING)
+                   index=lines(1, b'{"name":"x","vers":"1.2.%d"}\n'), output=CHECKING)
     yield manifest("20,000 targets", lambda: numbered(20_000, b'[target.t%d.dependencies]\nx = "1.0"\n'), stays=False,
                    index=lines(1, b'{"name":"x","vers":"1.2.%d"}\n'))
     yield manifest("50,000 entries that say nothing", entries(50_000, b"c%d = 1\n"),
-                   said=b"warning: ignoring c0, unsupported entry: ")
+                   output=b"warning: ignoring c0, unsupported entry: ")
     yield manifest("100,000 features of an entry", lambda: TABLE + b'x = { version = "1", features = ['
                    + numbered(100_000, b'"f%d",') + b"] }\n")
     yield manifest("a feature 100,000 times", lambda: TABLE + b'x = { version = "1", features = [' + b'"f",' * 100_000 + b"] }\n")
-    for size, status, said in ((64, 0, CHECKING), (65, 1, b"Error: Invalid crate name `")):
-        yield manifest(f"a crate name of {size} bytes", lambda n=size: TABLE + b"a" * n + b' = "1"\n', status, said)
+    for size, status, output in ((64, 0, CHECKING), (65, 1, b"Error: Invalid crate name `")):
+        yield manifest(f"a crate name of {size} bytes", lambda n=size: TABLE + b"a" * n + b' = "1"\n', status, output)
     for name in (b"", b"..", b"a/b", b"a\\u0000", b"\xc3\xa9", b"a" * 1_000_000):
         yield manifest(f"a crate {name[:9]!r}", lambda name=name: TABLE + b'"%s" = "1"\n' % name, 1, b"Error: Invalid crate name `")
     yield from chains()
-    yield from words()
+    yield from arguments()
 
 
 def chain(length, last):
@@ -89,14 +89,14 @@ def chains():
     yield manifest("no address", entry, 1, b"Error: invalid `registry` field", config=lambda: b'registries.s0.index = "' + b":" * 1_000_000 + b'"\n')
 
 
-def words():
-    word = "a" * 120_000
+def arguments():
+    arg = "a" * 120_000
     entry = lambda: TABLE + b'a = "1"\n'
-    yield manifest("a word of 120,000 bytes", entry, 1, b"Error: dependency " + word[:100].encode(), words=("-p", word))
-    yield manifest("a word of 120,000 slashes", entry, 1, b"Error: Invalid name `///", words=("-p", "/" * 120_000))
-    yield manifest("40,000 numbers in a requirement of a word", entry, 1, b"Error: Invalid version requirement `1.1.",
-                   words=("-p", "a@" + "1." * 40_000))
-    yield manifest("10,000 words", entries(20_000, b'c%d = "1"\n'), 1, b"Error: dependencies w0, w1, ",
-                   words=tuple(word for n in range(5_000) for word in ("-p", f"w{n}")))
+    yield manifest("an argument of 120,000 bytes", entry, 1, b"Error: dependency " + arg[:100].encode(), args=("-p", arg))
+    yield manifest("an argument of 120,000 slashes", entry, 1, b"Error: Invalid name `///", args=("-p", "/" * 120_000))
+    yield manifest("40,000 numbers in a requirement of an argument", entry, 1, b"Error: Invalid version requirement `1.1.",
+                   args=("-p", "a@" + "1." * 40_000))
+    yield manifest("10,000 arguments", entries(20_000, b'c%d = "1"\n'), 1, b"Error: dependencies w0, w1, ",
+                   args=tuple(arg for n in range(5_000) for arg in ("-p", f"w{n}")))
     yield manifest("5,000 excluded names", entries(20_000, b'c%d = "1"\n'),
-                   words=tuple(word for n in range(5_000) for word in ("--exclude", f"c{n}")))
+                   args=tuple(arg for n in range(5_000) for arg in ("--exclude", f"c{n}")))

@@ -9,9 +9,9 @@ TABLE = b"[dependencies]\n"
 NO_METADATA, NO_MANIFEST = b"Error: Invalid workspace metadata\n", b"Error: Failed to read manifest contents\n"
 
 
-def lines(what, text, status=0, said=CHECKING):
+def lines(what, text, status=0, output=CHECKING):
     """Index lines, under a manifest without entries."""
-    return manifest("index lines: " + what, lambda: b"", status, said, index=text)
+    return manifest("index lines: " + what, lambda: b"", status, output, index=text)
 
 
 def index_rows():
@@ -37,9 +37,9 @@ def index_rows():
         yield lines(what, lambda text=text: text)
 
 
-def ranking(what, text, said, requirement=b"0.1"):
-    """Index lines of one crate, whose latest version is told of an entry."""
-    return manifest("a ranking: " + what, lambda: TABLE + b'a = "%s"\n' % requirement, said=said, words=("-v",), index=text)
+def ranking(what, text, output, requirement=b"0.1"):
+    """Index lines of one crate, whose latest version is reported for an entry."""
+    return manifest("a ranking: " + what, lambda: TABLE + b'a = "%s"\n' % requirement, output=output, args=("-v",), index=text)
 
 
 def rankings():
@@ -59,19 +59,19 @@ def packages(count, path):
     return {"workspace_root": HERE, "workspace_members": [member["id"] for member in members], "packages": members}
 
 
-def metadata(what, told, status=1, said=NO_METADATA, files=None, words=("upgrade", *INDEX_FILE), stays=True):
+def metadata(what, listed, status=1, output=NO_METADATA, files=None, args=("upgrade", *INDEX_FILE), stays=True):
     """What `cargo metadata` says, as bytes or what they mean, under a command."""
     def made():
-        text = told()
+        text = listed()
         return {"metadata.json": text if isinstance(text, bytes) else json.dumps(text).encode(), **(files() if files else {})}
-    return Row(what, made, (*words, "--metadata-json", f"{HERE}/metadata.json"), status, said, stays)
+    return Row(what, made, (*args, "--metadata-json", f"{HERE}/metadata.json"), status, output, stays)
 
 
 def two(second):
     """Two members, of which one has its manifest at /w/a/Cargo.toml."""
-    told = packages(2, "/w/a%d/Cargo.toml")
-    told["packages"][0]["manifest_path"], told["packages"][1]["manifest_path"] = "/w/a/Cargo.toml", second
-    return told
+    listed = packages(2, "/w/a%d/Cargo.toml")
+    listed["packages"][0]["manifest_path"], listed["packages"][1]["manifest_path"] = "/w/a/Cargo.toml", second
+    return listed
 
 
 def thousand():
@@ -97,36 +97,36 @@ def metadata_rows():
                        ("no end", lambda: b"{" + b" " * MILLION), ("a deep package", lambda: b'{"packages":' + b'[{"a":' * MANY),
                        ("a version of a megabyte", lambda: {**one, "packages": [{**one["packages"][0], "version": "1" * MILLION}]})):
         yield metadata("metadata: " + what, text)
-    yield metadata("metadata: 100,000 members without a file", lambda: packages(MANY, "/w/a%d/Cargo.toml"), said=NO_MANIFEST)
+    yield metadata("metadata: 100,000 members without a file", lambda: packages(MANY, "/w/a%d/Cargo.toml"), output=NO_MANIFEST)
     yield metadata("metadata: 20,000 members, the last in the folder of the first", lambda: json.dumps(packages(
-        20_000, "/w/a%d/Cargo.toml")).replace("/w/a19999/", "/w/a0/").encode(), said=b"Error: Two members share the folder /w/a0\n")
+        20_000, "/w/a%d/Cargo.toml")).replace("/w/a19999/", "/w/a0/").encode(), output=b"Error: Two members share the folder /w/a0\n")
     member = lambda: {"a0/Cargo.toml": b""}
-    for what, changed in (("an id 100,000 times", lambda told: {"workspace_members": ["i0"] * MANY}),
-                          ("a package 20,000 times that is no member", lambda told: {"packages": told["packages"] + [
-                              {**told["packages"][0], "id": f"x{n}"} for n in range(20_000)]}),
-                          ("100,000 further members of an object", lambda told: {f"x{n}": n for n in range(MANY)})):
-        yield metadata("metadata: " + what, lambda changed=changed: (lambda told: {**told, **changed(told)})(
+    for what, changed in (("an id 100,000 times", lambda listed: {"workspace_members": ["i0"] * MANY}),
+                          ("a package 20,000 times that is no member", lambda listed: {"packages": listed["packages"] + [
+                              {**listed["packages"][0], "id": f"x{n}"} for n in range(20_000)]}),
+                          ("100,000 further members of an object", lambda listed: {f"x{n}": n for n in range(MANY)})):
+        yield metadata("metadata: " + what, lambda changed=changed: (lambda listed: {**listed, **changed(listed)})(
             packages(1, HERE + "/a%d/Cargo.toml")), 0, CHECKING, member)
     yield metadata("metadata: 1,000 members", thousand, 0, CHECKING, manifests)
-    for what, status, said, config in (
+    for what, status, output, config in (
             ("100 kB of comments", 0, CHECKING, lambda: b"# a line of a configuration\n" * 3600),
             ("400 registries", 0, CHECKING, lambda: registries(400)),
             ("1,000 registries", 0, CHECKING, lambda: registries(1000))):
-        yield metadata(f"1,000 members under one configuration: {what}", thousand, status, said,
+        yield metadata(f"1,000 members under one configuration: {what}", thousand, status, output,
                        lambda config=config: {".cargo/config.toml": config(), **manifests()})
     for second in ("/w/./a/Cargo.toml", "/w//a/Cargo.toml", "/w/b/../a/Cargo.toml", "//w/a//Cargo.toml", "/../w/a/./Cargo.toml",
                    "/w/a/x/y/../../Cargo.toml", "/w/a/other.toml", "/x" * MANY + "/.." * MANY + "/w/a/Cargo.toml"):
         yield metadata(f"two members in one folder: {second[:30]}", lambda second=second: two(second),
-                       said=b"Error: Two members share the folder /w/a\n")
+                       output=b"Error: Two members share the folder /w/a\n")
 
 
-def bump(what, version, level, status, said):
+def bump(what, version, level, status, output):
     """A new version of the one member, at a level."""
-    def told():
+    def listed():
         one = packages(1, HERE + "/a%d/Cargo.toml")
         one["packages"][0]["version"] = version()
         return one
-    return metadata(what, told, status, said, lambda: {"a0/Cargo.toml": b'[package]\nversion = "%s"\n' % version().encode()},
+    return metadata(what, listed, status, output, lambda: {"a0/Cargo.toml": b'[package]\nversion = "%s"\n' % version().encode()},
                     ("set-version", "--bump", level), stays=status != 0)
 
 
@@ -144,35 +144,35 @@ def version_rows():
     for text in ("1" * 120_000, "1." * 40_000, "1.70.0-" + "a" * 100_000):
         yield manifest(f"a Rust version {text[:9]}..", lambda: b"", 2, b"error: invalid value '", ("--rust-version", text))
     yield manifest("a manifest's Rust version of a megabyte", lambda: b'[package]\nrust-version = "' + b"1" * MILLION + b'"\n')
-    yield metadata("a target of 120,000 bytes", lambda: packages(1, "/w/a%d/Cargo.toml"), 2, b"error: invalid value '1.1.", words=(
+    yield metadata("a target of 120,000 bytes", lambda: packages(1, "/w/a%d/Cargo.toml"), 2, b"error: invalid value '1.1.", args=(
         "set-version", "1." * 60_000))
     yield metadata("build metadata that is none", lambda: packages(1, HERE + "/a%d/Cargo.toml"), 1, b"Error: Invalid build metadata `++", lambda: {
         "a0/Cargo.toml": b'[package]\nversion = "1.0.0"\n'}, ("set-version", "--bump", "minor", "--metadata", "+" * 100_000))
 
 
-def addressed(what, address, status, said, name=b"a"):
-    """A crate that is looked up in the index in files at an address."""
+def addressed(what, address, status, output, name=b"a"):
+    """A lookup of a crate in an index of files at an address."""
     files = lambda: {"Cargo.toml": TABLE + b'"%s" = { version = "1", registry = "r" }\n' % name,
                      ".cargo/config.toml": b'registries.r.index = "%s"\n' % address}
-    return Row(what, files, ("upgrade", "--manifest-path", f"{HERE}/Cargo.toml"), status, said)
+    return Row(what, files, ("upgrade", "--manifest-path", f"{HERE}/Cargo.toml"), status, output)
 
 
 def addresses():
     path, scheme = b"Error: invalid file path ", b"Error: Registry scheme `"
-    for address, status, said in ((b"file:///%00", 1, path), (b"file:///a%00b", 1, path), (b"file:///%FF", 1, path),
-                                  (b"https://e/x", 1, scheme), (b"sparse+https://e/", 1, scheme), (b"git+ssh://e/x", 1, scheme),
+    for address, status, output in ((b"file:///%00", 1, path), (b"file:///a%00b", 1, path), (b"file:///%FF", 1, path),
+                                    (b"https://e/x", 1, scheme), (b"sparse+https://e/", 1, scheme), (b"git+ssh://e/x", 1, scheme),
                                   (b"file:///nowhere%2F..%2F..", 0, CHECKING), (b"file:///" + b"a" * 3000, 1, b"Error: Failed to read a file\n"),
                                   (b"file:///%2e%2e/%2e%2e/nowhere", 0, CHECKING), (b"file://" + b"/.." * MANY, 0, CHECKING)):
-        yield addressed(f"a look at {address[:30].decode()}", address, status, said)
+        yield addressed(f"a lookup at {address[:30].decode()}", address, status, output)
     name = b"Error: Invalid crate name `"
     for crate in (b"a" * 65, b"", b"..", b"a/b", b"a\\u0000b", b"\xc3\xa9", b"a" * MILLION, b"%2e%2e", b"con/../.."):
-        yield addressed(f"a look for {crate[:20]!r}", b"file:///nowhere", 1, name, crate)
-    yield addressed("a look for a name of 64 bytes", b"file:///nowhere", 0, CHECKING, b"a" * 64)
+        yield addressed(f"a lookup of {crate[:20]!r}", b"file:///nowhere", 1, name, crate)
+    yield addressed("a lookup of a name of 64 bytes", b"file:///nowhere", 0, CHECKING, b"a" * 64)
 
 
-def spec(what, text, said):
+def spec(what, text, output):
     """A package spec under its reader alone."""
-    return Row(what, lambda: {"spec": text()}, ("spec", f"{HERE}/spec"), 0, said, calls=True)
+    return Row(what, lambda: {"spec": text()}, ("spec", f"{HERE}/spec"), 0, output, calls=True)
 
 
 def spec_rows():

@@ -1,6 +1,6 @@
-"""The texts of hostile.py, reader by reader: what a row shows, its files, the words, the status, and a text that must be
-printed. What is wanted comes from the standard (TOML 1.0.0, JSON), from the limits that the README states and from what
-the original says."""
+"""The texts of hostile.py, reader by reader: what a row shows, its files, the arguments, the status, and a text that must
+be printed. What is wanted comes from the standard (TOML 1.0.0, JSON), from the limits that the README states and from what
+the original prints."""
 
 from dataclasses import dataclass
 from typing import Callable
@@ -16,23 +16,23 @@ INDEX_FILE = ("--index-file", f"{HERE}/index.json")
 
 @dataclass
 class Row:
-    """What a row shows, its files, the words of the program (@HERE@ is the folder of the files), the status, a text that is
-    printed, and whether each file stays; a row of `calls` is one of the program edit_calls."""
+    """What a row shows, its files, the arguments of the program (@HERE@ is the folder of the files), the status, a text that
+    is printed, and whether each file stays; a row of `calls` is one of the program edit_calls."""
     what: str
     files: Callable[[], dict]
-    words: tuple
+    args: tuple
     status: int = 0
     text: bytes = b""
     stays: bool = True
     calls: bool = False
 
 
-def manifest(what, text, status=0, said=CHECKING, words=(), stays=True, **files):
+def manifest(what, text, status=0, output=CHECKING, args=(), stays=True, **files):
     """A manifest under an upgrade; the text is made when the row is tried."""
     others = {"index": "index.json", "config": ".cargo/config.toml"}
-    words = ("upgrade", "--manifest-path", f"{HERE}/Cargo.toml", *INDEX_FILE, *words)
-    return Row(what, lambda: {"Cargo.toml": text(), **{others[name]: make() for name, make in files.items()}}, words,
-               status, said, stays)
+    args = ("upgrade", "--manifest-path", f"{HERE}/Cargo.toml", *INDEX_FILE, *args)
+    return Row(what, lambda: {"Cargo.toml": text(), **{others[name]: make() for name, make in files.items()}}, args,
+               status, output, stays)
 
 
 def refused(what, text):
@@ -52,10 +52,10 @@ def deep_texts():
     yield refused("100,000 parts in a header", lambda: b"[a" + b".a" * MANY + b"]\n")
     yield refused("100,000 parts in a header of an element", lambda: b"[[a" + b".a" * MANY + b"]]\n")
     yield refused("100,000 closing brackets", lambda: b"a = [" + b"]" * MANY)
-    for parts, status, said in ((80, 0, CHECKING), (81, 1, PARSE)):
-        yield manifest(f"a key of {parts} parts", lambda n=parts: b"a" + b".a" * (n - 1) + b" = 1\n", status, said)
-        yield manifest(f"a header of {parts} parts", lambda n=parts: b"[a" + b".a" * (n - 1) + b"]\n", status, said)
-        yield manifest(f"{parts - 1} arrays in one another", lambda n=parts - 1: b"a = " + b"[" * n + b"1" + b"]" * n, status, said)
+    for parts, status, output in ((80, 0, CHECKING), (81, 1, PARSE)):
+        yield manifest(f"a key of {parts} parts", lambda n=parts: b"a" + b".a" * (n - 1) + b" = 1\n", status, output)
+        yield manifest(f"a header of {parts} parts", lambda n=parts: b"[a" + b".a" * (n - 1) + b"]\n", status, output)
+        yield manifest(f"{parts - 1} arrays in one another", lambda n=parts - 1: b"a = " + b"[" * n + b"1" + b"]" * n, status, output)
     yield manifest("6,000 headers of 80 new parts", lambda: numbered(6000, b"[%04d" + b".a" * 79 + b"]\n"))
     yield manifest("4,000 keys of 80 new parts", lambda: numbered(4000, b"a%04d" + b".a" * 79 + b" = 1\n"))
 

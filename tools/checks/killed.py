@@ -19,7 +19,7 @@ LINES = b'{"name":"a","vers":"1.0.0"}\n{"name":"a","vers":"1.5.0"}\n'
 
 
 class Manifests:
-    """The manifests of a workspace, in folders of their own, and the words of a run."""
+    """The manifests of a workspace, in folders of their own, and the arguments of a run."""
 
     def __init__(self, program, room):
         self.room = pathlib.Path(room)
@@ -30,7 +30,7 @@ class Manifests:
         for path in self.paths:
             path.parent.mkdir()
         (self.room / "metadata.json").write_text(json.dumps(self.metadata()))
-        self.words = [program, "upgrade", "--metadata-json", str(self.room / "metadata.json"), "--index-file",
+        self.args = [program, "upgrade", "--metadata-json", str(self.room / "metadata.json"), "--index-file",
                       str(self.room / "index.json")]
         self.reset()
         self.own = self.names()
@@ -70,7 +70,7 @@ class Manifests:
         return front if all(text == self.old for text in texts[front:]) else None
 
     def start(self):
-        return subprocess.Popen(self.words, stdout=subprocess.DEVNULL, stderr=subprocess.DEVNULL)
+        return subprocess.Popen(self.args, stdout=subprocess.DEVNULL, stderr=subprocess.DEVNULL)
 
     def is_raised(self):
         """Whether an undisturbed run raises each manifest."""

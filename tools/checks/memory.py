@@ -3,8 +3,8 @@
 examples/first and the workspace of examples/workspace by `upgrade`, that of examples/versions by `set-version`. LIBRARY
 refuses the request whose number REFUSE_AT is.
 
-Request 1 is refused, then 2, until a run ends without a refusal. A run ends with status 0, and prints and leaves what an
-undisturbed one does; or with status 1, says behind a front of that that memory ran out, and of the manifests in their order
+Request 1 is refused, then 2, until a run ends with no request refused. A run ends with status 0, and prints and leaves what an
+undisturbed one does; or with status 1, says after the start of that output that memory ran out, and of the manifests in their order
 leaves some raised and those behind them as they were. No further file is left. What the manifests become was worked out by
 hand (examples/NAME/*.diff)."""
 
@@ -19,7 +19,7 @@ from concurrent.futures import ThreadPoolExecutor
 EXAMPLES = pathlib.Path(__file__).resolve().parents[2] / "examples"
 LACK = b"Error: out of memory\n"
 AT_ONCE = 4
-WORDS = {"first": ("upgrade", "--manifest-path", "@HERE@/Cargo.toml", "--index-file", "@HERE@/index.json"),
+ARGUMENTS = {"first": ("upgrade", "--manifest-path", "@HERE@/Cargo.toml", "--index-file", "@HERE@/index.json"),
          "workspace": ("upgrade", "--metadata-json", "@HERE@/metadata.json"),
          "versions": ("set-version", "--bump", "minor", "--workspace", "--metadata-json", "@HERE@/metadata.json")}
 DIFFS = {"first": "raised.diff", "workspace": "raised.diff", "versions": "bumped.diff"}
@@ -54,7 +54,7 @@ class Place:
                 (self.here / path).write_bytes((EXAMPLES / name / path).read_bytes())
         else:
             subprocess.run([EXAMPLES / "lay_out", name, self.here], check=True)
-        self.words = [word.replace("@HERE@", str(self.here)) for word in WORDS[name]]
+        self.args = [arg.replace("@HERE@", str(self.here)) for arg in ARGUMENTS[name]]
         self.manifests = [self.here / path for path in MANIFESTS[name]]
         self.old, self.new = [path.read_bytes() for path in self.manifests], list(changed(name))
         self.names = self.files()
@@ -76,7 +76,7 @@ class Place:
         seen.unlink(missing_ok=True)
         environment = {"LD_PRELOAD": self.library, what: str(number), "REFUSE_SEEN": str(seen),
                        "HOME": str(self.here.parent / "home")}
-        done = subprocess.run([self.program, *self.words], capture_output=True, check=False, timeout=60, env=environment)
+        done = subprocess.run([self.program, *self.args], capture_output=True, check=False, timeout=60, env=environment)
         return (done.returncode, done.stdout.replace(os.fsencode(self.here), b""), done.stderr.replace(
             os.fsencode(self.here), b"")), seen.read_text() if seen.exists() else ""
 
@@ -107,9 +107,9 @@ def lacked(place, number):
 
 
 def in_turn(program, library, name, tried):
-    """How many requests or calls of a run over an example were refused in turn, and how many runs told of it; what is wrong
-    with one ends the whole."""
-    told = 0
+    """How many requests or calls of a run over an example were refused in turn, and how many runs reported it; the
+    first wrong run ends the whole."""
+    reported = 0
     with tempfile.TemporaryDirectory() as folder, ThreadPoolExecutor(AT_ONCE) as pool:
         rooms = [pathlib.Path(folder) / str(number) for number in range(AT_ONCE)]
         for room in rooms:
@@ -117,19 +117,19 @@ def in_turn(program, library, name, tried):
         places = [Place(program, library, name, room) for room in rooms]
         for first in itertools.count(1, AT_ONCE):
             runs = pool.map(tried, places, range(first, first + AT_ONCE))
-            for number, (wrong, tells, seen) in enumerate(runs, first):
-                if wrong or (tells and not seen):
+            for number, (wrong, reports, seen) in enumerate(runs, first):
+                if wrong or (reports and not seen):
                     sys.exit(f"examples/{name}, number {number}: {wrong or 'it was not refused'}")
-                told += tells
+                reported += reports
                 if not seen:
-                    return (number - 1, told) if told else sys.exit(f"examples/{name}: no refusal was told")
+                    return (number - 1, reported) if reported else sys.exit(f"examples/{name}: no run reported an error")
 
 
 def main():
-    library, program = (str(pathlib.Path(word).resolve()) for word in sys.argv[1:3])
-    for name in WORDS:
-        requests, told = in_turn(program, library, name, lacked)
-        print(f"examples/{name}: {requests} requests for memory refused in turn, of which {told} were told")
+    library, program = (str(pathlib.Path(arg).resolve()) for arg in sys.argv[1:3])
+    for name in ARGUMENTS:
+        requests, reported = in_turn(program, library, name, lacked)
+        print(f"examples/{name}: {requests} requests for memory refused in turn, of which {reported} are reported")
 
 
 if __name__ == "__main__":

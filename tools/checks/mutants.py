@@ -7,7 +7,7 @@ import unittest
 
 sys.dont_write_bytecode = True
 sys.path.insert(0, os.path.join(os.path.dirname(os.path.abspath(__file__)), ".."))
-from edits import Edit, Said, Unusable, judged  # noqa: E402
+from edits import Edit, Report, Unusable, judged  # noqa: E402
 from mutant_files import chosen, without_mutants  # noqa: E402
 from source import Source  # noqa: E402
 
@@ -51,9 +51,9 @@ class Mutants(unittest.TestCase):
     def edit(self, text):
         return Edit(self.write("wrong-bodies/one.edit", text), Source(self.folder))
 
-    def verdict(self, said, edit=COUNT, changed=()):
+    def verdict(self, report, edit=COUNT, changed=()):
         edit = self.edit(edit)
-        return judged(edit, Said("\n".join([*said, ENDED]), "a", self.folder), edit.members | set(changed))
+        return judged(edit, Report("\n".join([*report, ENDED]), "a", self.folder), edit.members | set(changed))
 
     def refuses(self, text, why):
         with self.assertRaisesRegex(Unusable, why):
@@ -84,8 +84,8 @@ class Mutants(unittest.TestCase):
         self.assertEqual(cycle.functions, {"tree::Tree::down"})
         self.assertLessEqual(
             {"tree::Tree::down", "tree::Tree::up", "tree::Tree::+walk", "tree::+walk", "read::+walk"}, cycle.members)
-        said = Said("fn a::tree::Tree::+walk: no proof: `search` did not prove `returns`\n" + ENDED, "a", self.folder)
-        self.assertEqual(judged(cycle, said, cycle.members)[0], "refused")
+        report = Report("fn a::tree::Tree::+walk: no proof: `search` did not prove `returns`\n" + ENDED, "a", self.folder)
+        self.assertEqual(judged(cycle, report, cycle.members)[0], "refused")
 
     def test_a_goal_that_the_search_leaves_open_refuses(self):
         self.assertEqual(self.verdict([OPEN]), ("refused", "`search` did not prove `returns`"))
@@ -110,8 +110,8 @@ class Mutants(unittest.TestCase):
         self.assertEqual(self.verdict(["fn a::count: no holes"]), ("failed", "count is proved"))
         self.assertEqual(self.verdict(["fn a::count: the borrow checker says no"])[0], "failed")
         edit = self.edit(COUNT)
-        said = Said("src/lib.rt:8:5: error: this is no text", "a", self.folder)
-        self.assertIn("does not reach the prover", judged(edit, said, edit.members)[1])
+        report = Report("src/lib.rt:8:5: error: this is no text", "a", self.folder)
+        self.assertIn("does not reach the prover", judged(edit, report, edit.members)[1])
 
     def test_a_function_that_waits_is_tried_again(self):
         waits = "fn a::count: no proof; it calls `a::tree::size`, which is not proved"
@@ -120,7 +120,7 @@ class Mutants(unittest.TestCase):
 
     def test_a_crate_without_mutants_fails(self):
         crate = Crate("a", self.folder)
-        bare = lambda kind, words=(): without_mutants([crate], chosen([crate], words, kind), kind)
+        bare = lambda kind, args=(): without_mutants([crate], chosen([crate], args, kind), kind)
         self.assertEqual(bare("wrong-bodies"), ["a"])
         self.assertEqual(bare("more-wrong-bodies"), [])
         os.makedirs(os.path.join(self.folder, "more-wrong-bodies"))

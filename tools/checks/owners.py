@@ -41,11 +41,11 @@ class Place:
         os.chown(self.folder, folder_uid, folder_gid)
         self.folder.chmod(folder_mode)
 
-    def words(self, *more):
+    def args(self, *more):
         return [self.program, "upgrade", "--manifest-path", str(self.manifest), "--index-file", str(self.index), *more]
 
     def run(self, by=(), more=(), **options):
-        return run(self.words(*more), by, env={"HOME": str(self.room), "PATH": os.environ["PATH"]}, **options)
+        return run(self.args(*more), by, env={"HOME": str(self.room), "PATH": os.environ["PATH"]}, **options)
 
     def faults(self, what, done, status=0, text=NEW):
         """What is wrong with a run that was to end so and to leave this text, and no other file."""
@@ -117,13 +117,13 @@ def read(place):
     yield from place.faults("a pipe as index file", run(["bash", "-c", script, place.program]))
     for option in ("--index-file", "--config", "--metadata-json"):
         place.manifest.write_bytes(OLD)
-        words = [place.program, "upgrade", "--manifest-path", str(place.manifest), option, "/dev/zero"]
-        with subprocess.Popen(words, stdout=subprocess.DEVNULL, stderr=subprocess.PIPE) as child:
-            said = child.stderr.read()
+        args = [place.program, "upgrade", "--manifest-path", str(place.manifest), option, "/dev/zero"]
+        with subprocess.Popen(args, stdout=subprocess.DEVNULL, stderr=subprocess.PIPE) as child:
+            output = child.stderr.read()
             _, status, used = os.wait4(child.pid, 0)
             child.returncode = os.waitstatus_to_exitcode(status)
-        if child.returncode != 1 or b"Error: " not in said or place.manifest.read_bytes() != OLD:
-            yield f"{option} /dev/zero: status {child.returncode}, {said!r}"
+        if child.returncode != 1 or b"Error: " not in output or place.manifest.read_bytes() != OLD:
+            yield f"{option} /dev/zero: status {child.returncode}, {output!r}"
         if used.ru_maxrss > 100_000:
             yield f"{option} /dev/zero: {used.ru_maxrss} kB of memory"
     configuration = place.room / ".cargo" / "config.toml"
@@ -144,8 +144,8 @@ def calls(program, room):
               "source": "registry+https://github.com/rust-lang/crates.io-index"}
     workspace.metadata["packages"].append(locked)
     (workspace.room / "metadata.json").write_text(json.dumps(workspace.metadata))
-    words = workspace.upgrade() + ["--update-calls"]
-    plain = run(words + [str(workspace.room / "calls")])
+    args = workspace.upgrade() + ["--update-calls"]
+    plain = run(args + [str(workspace.room / "calls")])
     text = (workspace.room / "calls").read_bytes()
     if plain.returncode or b"update" not in text:
         yield f"a file of calls: {plain.returncode} {text!r} {plain.stderr!r}"
@@ -153,21 +153,21 @@ def calls(program, room):
     log = workspace.room / "log"
     log.write_bytes(b"before\n")
     with open(log, "ab") as file:
-        done = subprocess.run(words + ["/dev/stdout"], stdout=file, stderr=subprocess.PIPE, check=False, timeout=60)
+        done = subprocess.run(args + ["/dev/stdout"], stdout=file, stderr=subprocess.PIPE, check=False, timeout=60)
     if done.returncode or not log.read_bytes().startswith(b"before\n") or not log.read_bytes().endswith(text):
         yield f"calls to standard output: {done.returncode} {log.read_bytes()!r} {done.stderr!r}"
     workspace.reset()
-    done = run(words + ["/dev/stdout"])
+    done = run(args + ["/dev/stdout"])
     if done.returncode or not done.stdout.endswith(text):
         yield f"calls to a pipe: {done.returncode} {done.stdout!r} {done.stderr!r}"
     workspace.reset()
     fifo = workspace.room / "fifo"
     os.mkfifo(fifo)
     with subprocess.Popen(["cat", str(fifo)], stdout=subprocess.PIPE) as reader:
-        done = run(words + [str(fifo)])
-        said = reader.communicate(timeout=20)[0]
-    if done.returncode or said != text or not fifo.is_fifo():
-        yield f"calls to a FIFO: {done.returncode} {said!r} {done.stderr!r}"
+        done = run(args + [str(fifo)])
+        output = reader.communicate(timeout=20)[0]
+    if done.returncode or output != text or not fifo.is_fifo():
+        yield f"calls to a FIFO: {done.returncode} {output!r} {done.stderr!r}"
 
 
 def twice(program, room):
@@ -189,8 +189,8 @@ def refused(program, room):
     """A member that may not be written: no member of the workspace is."""
     workspace = Workspace(program, room)
     workspace.paths[1].chmod(0o444)
-    for words in (workspace.upgrade(), workspace.set_version("0.2.0")):
-        done = run(words)
+    for args in (workspace.upgrade(), workspace.set_version("0.2.0")):
+        done = run(args)
         place = b"  at " + str(workspace.paths[1]).encode()
         if done.returncode != 1 or place not in done.stderr or b"  cause: " not in done.stderr:
             yield f"a member that may not be written: {done.returncode} {done.stderr!r}"

@@ -40,18 +40,18 @@ class Inexpressible(Exception):
 
 def options_of(arguments):
     """The options of a command line, the paths of the files that it names, and its target."""
-    options, files, target, words = {}, {}, None, list(arguments)
-    while words:
-        word = SHORT.get(words[0], words[0])
-        words.pop(0)
-        name, equals, value = word.removeprefix("--").partition("=")
-        if not word.startswith("-"):
-            target = word
+    options, files, target, args = {}, {}, None, list(arguments)
+    while args:
+        arg = SHORT.get(args[0], args[0])
+        args.pop(0)
+        name, equals, value = arg.removeprefix("--").partition("=")
+        if not arg.startswith("-"):
+            target = arg
             continue
         if name in VALUED | FILES.keys() | {"message-format", "manifest-path"} and not equals:
-            value = words.pop(0)
-        if name in OPTIONAL and not equals and words[:1] and words[0] in ("allow", "ignore", "true", "false"):
-            value, equals = words.pop(0), "="
+            value = args.pop(0)
+        if name in OPTIONAL and not equals and args[:1] and args[0] in ("allow", "ignore", "true", "false"):
+            value, equals = args.pop(0), "="
         if name in FILES or name == "manifest-path":
             files[name] = value
         elif name in VALUED:
@@ -61,7 +61,7 @@ def options_of(arguments):
         elif name in FLAGS and not equals:
             options[name] = True
         elif name not in ("message-format", "diff"):
-            raise Inexpressible(word)
+            raise Inexpressible(arg)
     return options, files, target
 
 

@@ -61,29 +61,29 @@ UNMOVED = [
     ("no file beside", "left", "/a", "", "a"),
 ]
 
-# The words that stand for texts: each for a manifest with a greater version than the one before it.
-WORDS = ("old", "new", "one", "two", "three", "four")
+# The labels of texts: each is a manifest with a greater version than the one before it.
+LABELS = ("old", "new", "one", "two", "three", "four")
 
-# What the calls of `cargo update` say where the locked package has a word as its name.
+# The calls of `cargo update` for a locked package whose name is a label.
 CALLS = re.compile(r"cargo\nupdate\n.*\n--package\n(\w+)@1\.0\.0\n--offline\n\n", re.DOTALL)
 
 
-def manifest(word, name="a"):
-    """The text of the manifest that a word stands for."""
-    return f'[dependencies]\n{name} = "1.0.{WORDS.index(word)}"\n'
+def manifest(label, name="a"):
+    """The text of the manifest of a label."""
+    return f'[dependencies]\n{name} = "1.0.{LABELS.index(label)}"\n'
 
 
-def line(word, name="a"):
+def line(label, name="a"):
     """The line of an index that has the version of that manifest."""
-    return json.dumps({"name": name, "vers": f"1.0.{WORDS.index(word)}"}) + "\n"
+    return json.dumps({"name": name, "vers": f"1.0.{LABELS.index(label)}"}) + "\n"
 
 
-def word_of(text):
-    """The word that stands for a text, or the text."""
+def label_of(text):
+    """The label of a text, or the text itself where it has none."""
     calls = CALLS.fullmatch(text)
     if calls:
         return calls[1]
-    return next((word for word in WORDS if text == manifest(word)), text)
+    return next((label for label in LABELS if text == manifest(label)), text)
 
 
 class Files:
@@ -96,17 +96,17 @@ class Files:
         os.mkdir(self.folder)
         self.given.mkdir()
 
-    def run(self, *words, **variables):
-        """The text of the program's refusal; none where it succeeds."""
-        done = subprocess.run([self.program, *words], cwd=self.given, env=variables, text=True, timeout=60,
+    def run(self, *args, **variables):
+        """The program's error message; None where it succeeds."""
+        done = subprocess.run([self.program, *args], cwd=self.given, env=variables, text=True, timeout=60,
                               stdin=subprocess.DEVNULL, capture_output=True, check=False)
         if not done.returncode:
             return None
-        refusals = [said for said in done.stderr.splitlines() if said.startswith("Error: ")]
-        return refusals[0].removeprefix("Error: ") if refusals else f"status {done.returncode}"
+        errors = [error for error in done.stderr.splitlines() if error.startswith("Error: ")]
+        return errors[0].removeprefix("Error: ") if errors else f"status {done.returncode}"
 
-    def give(self, word, name="a"):
-        """Lays out a manifest, an index that has the word's version, and metadata with a locked package."""
+    def give(self, label, name="a"):
+        """Writes a manifest, an index that has the label's version, and metadata with a locked package."""
         at = str(self.given)
         member = {"name": "p", "id": "p", "version": "1.0.0", "manifest_path": at + "/Cargo.toml"}
         package = {"name": name, "id": "q", "version": "1.0.0", "manifest_path": at + "/q/Cargo.toml",
@@ -114,36 +114,36 @@ class Files:
         metadata = {"workspace_root": at, "workspace_members": ["p"], "packages": [member, package]}
         (self.given / "metadata.json").write_text(json.dumps(metadata))
         (self.given / "Cargo.toml").write_text(manifest("old", name))
-        (self.given / "index.json").write_text(line(word, name))
+        (self.given / "index.json").write_text(line(label, name))
 
     def kind(self, path, _argument):
         """What stands at a path, by what the program says of it as a manifest."""
         self.give("one")
-        said = self.run("upgrade", "--dry-run", "--manifest-path", path, "--index-file", "index.json")
-        if said == "Failed to get cargo file metadata":
+        error = self.run("upgrade", "--dry-run", "--manifest-path", path, "--index-file", "index.json")
+        if error == "Failed to get cargo file metadata":
             return "absent"
-        return "folder" if said == "Unable to find Cargo.toml for " + path else "file"
+        return "folder" if error == "Unable to find Cargo.toml for " + path else "file"
 
     def read(self, path, _argument):
         """What a file says, where the program reads it as an index."""
         self.give("one")
-        said = self.run("upgrade", "--dry-run", "--manifest-path", "Cargo.toml", "--index-file", path)
-        if said == "Failed to get cargo file metadata":
+        error = self.run("upgrade", "--dry-run", "--manifest-path", "Cargo.toml", "--index-file", path)
+        if error == "Failed to get cargo file metadata":
             return "none"
-        return word_of(pathlib.Path(path).read_text()) if os.path.isfile(path) else "read, and no file"
+        return label_of(pathlib.Path(path).read_text()) if os.path.isfile(path) else "read, and no file"
 
-    def write(self, path, word):
-        """What becomes of the manifest at a path that is raised to the word's; or, where no file stands, of
+    def write(self, path, label):
+        """What becomes of the manifest at a path that is raised to the label's; or, where there is no file, of
         the calls of `cargo update` that are written there."""
         if os.path.exists(path):
-            self.give(word)
-            words = ["--manifest-path", path]
+            self.give(label)
+            args = ["--manifest-path", path]
         else:
-            self.give(word, word)
-            words = ["--metadata-json", "metadata.json", "--update-calls", path]
-        said = self.run("upgrade", *words, "--index-file", "index.json", **self.variables)
-        number = 3 if said == "Failed to write updated Cargo.toml" else "?"
-        return "written" if said is None else f"{number} {said}"
+            self.give(label, label)
+            args = ["--metadata-json", "metadata.json", "--update-calls", path]
+        error = self.run("upgrade", *args, "--index-file", "index.json", **self.variables)
+        number = 3 if error == "Failed to write updated Cargo.toml" else "?"
+        return "written" if error is None else f"{number} {error}"
 
 
 def leave(path):
@@ -156,7 +156,7 @@ def leave(path):
 
 
 # What a row changes on the machine, and what it shows of the machine.
-CHANGES = {"put": lambda path, word: pathlib.Path(path).write_text(manifest(word)),
+CHANGES = {"put": lambda path, label: pathlib.Path(path).write_text(manifest(label)),
            "folder": lambda path, _: os.mkdir(path),
            "set mode": lambda path, digits: os.chmod(path, int(digits, 8)),
            "link": lambda path, _: os.symlink(path, path + ".link"),
@@ -196,7 +196,7 @@ def unmoved(program, library, room):
     for number in itertools.count(1):
         seen = pathlib.Path(room, str(number))
         variables = {"LD_PRELOAD": library, "FAIL_AT": str(number), "REFUSE_SEEN": str(seen)}
-        # (in a folder as deep as that of the steps, since configurations are looked for upwards)
+        # (in a folder as deep as that of the steps, since configurations are searched for upwards)
         with tempfile.TemporaryDirectory() as own:
             files = Files(program, os.path.realpath(own), variables)
             CHANGES["put"](files.folder + "/a", "old")

@@ -19,9 +19,9 @@ WORKERS = 4
 PASSED = {"exit_group", "brk", "mmap", "munmap", "mremap", "execve"}
 
 
-def calls(words):
+def calls(args):
     """The system calls of a run, each with how many of its name came before it, from the first of the program's own."""
-    traced = run(["strace", "-f", "-o", "/dev/stdout", *words]).stdout.decode(errors="replace")
+    traced = run(["strace", "-f", "-o", "/dev/stdout", *args]).stdout.decode(errors="replace")
     names = [found[1] for found in (re.match(r"\d+\s+(\w+)\(", line) for line in traced.splitlines()) if found]
     seen, numbered = collections.Counter(), []
     for name in names:
@@ -30,10 +30,10 @@ def calls(words):
     return numbered[names.index("getcwd"):]
 
 
-def unflushed(words, members):
+def unflushed(args, members):
     """What is wrong with how a run makes its new files: each is flushed before the first is moved to its place, and there is one
     for each manifest."""
-    traced = run(["strace", "-f", "-y", "-e", "trace=fsync,rename,renameat,renameat2", "-o", "/dev/stdout", *words])
+    traced = run(["strace", "-f", "-y", "-e", "trace=fsync,rename,renameat,renameat2", "-o", "/dev/stdout", *args])
     flushed, moved = set(), 0
     for line in traced.stdout.decode(errors="replace").splitlines():
         if found := re.search(r"fsync\(\d+<[^>]*/([^/>]*\.tmp)>\) += 0", line):
@@ -51,14 +51,14 @@ def ordered():
     for name in ("upgrade", "set-version"):
         with tempfile.TemporaryDirectory() as room:
             workspace = Workspace(sys.argv[1], room)
-            words = workspace.upgrade() if name == "upgrade" else workspace.set_version("0.2.0")
-            yield from (f"{name}: {text}" for text in unflushed(words, len(workspace.paths)))
+            args = workspace.upgrade() if name == "upgrade" else workspace.set_version("0.2.0")
+            yield from (f"{name}: {text}" for text in unflushed(args, len(workspace.paths)))
 
 
-def inject(words, call, what):
+def inject(args, call, what):
     """A run in which something befalls a system call."""
     name, number = call
-    return run(["strace", "-f", "-o", "/dev/null", "-e", f"inject={name}:{what}:when={number}", *words])
+    return run(["strace", "-f", "-o", "/dev/null", "-e", f"inject={name}:{what}:when={number}", *args])
 
 
 def is_front(state):
@@ -66,35 +66,35 @@ def is_front(state):
     return re.fullmatch("1*0*", state) is not None
 
 
-def failed(workspace, words, new, share, counts):
+def failed(workspace, args, new, share, counts):
     """What is wrong with runs in which a call fails."""
     for call in share:
         for error in ERRORS if call[0] not in PASSED else ():
             workspace.reset()
-            done = inject(words, call, f"error={error}")
+            done = inject(args, call, f"error={error}")
             state = workspace.state(workspace.old, new)
             counts[error, f"status {done.returncode}", state] += 1
-            # (what fails while the error is printed leaves it untold)
-            told = done.returncode == 1 and (b"Error: " in done.stderr or call[0] in ("write", "writev"))
+            # (a call that fails while the error is printed leaves it unprinted)
+            reported = done.returncode == 1 and (b"Error: " in done.stderr or call[0] in ("write", "writev"))
             # (without a current folder the arguments cannot be read: a usage error)
             is_usage_error = done.returncode == 2 and b"error: the current folder" in done.stderr
-            told |= is_usage_error and call[0] == "getcwd" and state == "000"
-            # (what fails behind the last rename is told, with every manifest new)
-            if not is_front(state) or not (told or (done.returncode == 0 and state == "111")):
+            reported |= is_usage_error and call[0] == "getcwd" and state == "000"
+            # (a failure after the last rename is reported, and every manifest is new)
+            if not is_front(state) or not (reported or (done.returncode == 0 and state == "111")):
                 yield f"{error} of {call}: status {done.returncode}, {state}, {done.stderr[-200:]!r}"
             if state not in ("000", "111") and not call[0].startswith("rename"):
                 yield f"{error} of {call}, which moves no file: {state}, {done.stderr[-200:]!r}"
             if workspace.left():
-                run(words)
+                run(args)
                 if workspace.left():
                     yield f"{error} of {call}: behind the next run {workspace.left()} are left"
 
 
-def killed(workspace, words, new, share, counts):
+def killed(workspace, args, new, share, counts):
     """What is wrong with runs that are killed at a call."""
     for call in share:
         workspace.reset()
-        inject(words, call, "signal=KILL")
+        inject(args, call, "signal=KILL")
         state = workspace.state(workspace.old, new)
         counts["killed", state] += 1
         if not is_front(state):
@@ -108,9 +108,9 @@ def part(kind, name, number, counts):
     """What is wrong with every WORKERS-th of the runs of a kind over a command, in a workspace of their own."""
     with tempfile.TemporaryDirectory() as room:
         workspace = Workspace(sys.argv[1], room)
-        words = workspace.upgrade() if name == "upgrade" else workspace.set_version("0.2.0")
+        args = workspace.upgrade() if name == "upgrade" else workspace.set_version("0.2.0")
         new = workspace.raised() if name == "upgrade" else workspace.bumped()
-        return [f"{name}: {text}" for text in kind(workspace, words, new, calls(words)[number::WORKERS], counts)]
+        return [f"{name}: {text}" for text in kind(workspace, args, new, calls(args)[number::WORKERS], counts)]
 
 
 def main():

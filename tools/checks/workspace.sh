@@ -16,11 +16,11 @@ changes() { # old folder, new folder
 
 "$here/examples/lay_out" workspace "$room/upgraded"
 cp -R "$room/upgraded" "$room/old"
-upgrade() { "$1" upgrade --metadata-json "$room/upgraded/metadata.json" > "$room/printed" 2> "$room/told"; }
+upgrade() { "$1" upgrade --metadata-json "$room/upgraded/metadata.json" > "$room/printed" 2> "$room/err"; }
 upgrade "$1"
 changes "$room/old" "$room/upgraded" | diff "$here/examples/workspace/raised.diff" -
 diff "$here/examples/workspace/printed" "$room/printed"
-sed "s|@HERE@|$room/upgraded|g" "$here/examples/workspace/told" | diff - "$room/told"
+sed "s|@HERE@|$room/upgraded|g" "$here/examples/workspace/told" | diff - "$room/err"
 # planned again, nothing changes
 cp -R "$room/upgraded" "$room/once"
 upgrade "$1"
@@ -28,12 +28,12 @@ changes "$room/once" "$room/upgraded" | diff /dev/null -
 
 "$here/examples/lay_out" versions "$room/bumped"
 cp -R "$room/bumped" "$room/old_versions"
-bump() { "$1" set-version --bump minor --workspace --metadata-json "$room/bumped/metadata.json" "${@:2}" > "$room/printed" 2> "$room/told"; }
-# a dry run says the same and writes nothing
+bump() { "$1" set-version --bump minor --workspace --metadata-json "$room/bumped/metadata.json" "${@:2}" > "$room/printed" 2> "$room/err"; }
+# a dry run prints the same and writes nothing
 bump "$1" --dry-run
 changes "$room/old_versions" "$room/bumped" | diff /dev/null -
-{ cat "$here/examples/versions/told"; echo 'warning: aborting set-version due to dry run'; } | diff - "$room/told"
+{ cat "$here/examples/versions/told"; echo 'warning: aborting set-version due to dry run'; } | diff - "$room/err"
 bump "$1"
 changes "$room/old_versions" "$room/bumped" | diff "$here/examples/versions/bumped.diff" -
 diff /dev/null "$room/printed"
-diff "$here/examples/versions/told" "$room/told"
+diff "$here/examples/versions/told" "$room/err"

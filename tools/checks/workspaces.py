@@ -1,4 +1,4 @@
-"""A workspace of small manifests that runs change at once, are killed over or are refused in, and the words of runs."""
+"""A workspace of small manifests that runs change at once, are killed over or fail in, and the arguments of runs."""
 
 import json
 import pathlib
@@ -51,8 +51,8 @@ class Workspace:
         return [self.program, "upgrade", "--metadata-json", str(self.room / "metadata.json"), "--index-file",
                 str(self.room / "index.json")]
 
-    def set_version(self, *words):
-        return [self.program, "set-version", "--metadata-json", str(self.room / "metadata.json"), "--workspace", *words]
+    def set_version(self, *args):
+        return [self.program, "set-version", "--metadata-json", str(self.room / "metadata.json"), "--workspace", *args]
 
     def raised(self):
         """What an upgrade leaves."""
@@ -70,6 +70,6 @@ class Workspace:
                        for at, path in enumerate(self.paths))
 
 
-def run(words, by=(), **options):
+def run(args, by=(), **options):
     """A run, with what it prints."""
-    return subprocess.run([*by, *words], capture_output=True, check=False, timeout=60, **options)
+    return subprocess.run([*by, *args], capture_output=True, check=False, timeout=60, **options)

@@ -18,7 +18,7 @@ import tempfile
 
 
 def verdict(program, room, text):
-    """Whether the program accepts a manifest and leaves it as it is, in words."""
+    """The verdict of the program on a manifest, as a text: whether it accepts it and leaves it as it is."""
     target = os.path.join(room, "Cargo.toml")
     with open(target, "wb") as file:
         file.write(text)
@@ -31,9 +31,9 @@ def verdict(program, room, text):
         return "changed"
     if done.returncode == 0:
         return "accepted"
-    said = done.stdout.decode().strip()
-    refusals = ("Error: Unable to parse Cargo.toml", "Error: Failed to read manifest contents")
-    return "refused" if done.returncode == 1 and said.startswith(refusals) else "failed: " + said
+    outcome = done.stdout.decode().strip()
+    errors = ("Error: Unable to parse Cargo.toml", "Error: Failed to read manifest contents")
+    return "refused" if done.returncode == 1 and outcome.startswith(errors) else "failed: " + outcome
 
 
 def texts_below(folder, is_wanted):
@@ -50,9 +50,9 @@ def manifests(program, room, folder):
     count, others = 0, []
     for name, text in texts_below(folder, lambda name: name in ("Cargo.toml", "Cargo.toml.orig")):
         count += 1
-        said = verdict(program, room, text)
-        if said != "accepted":
-            others.append("%s: %s" % (name, said))
+        outcome = verdict(program, room, text)
+        if outcome != "accepted":
+            others.append("%s: %s" % (name, outcome))
     print("\n".join(others + ["%d manifests, %d not accepted or changed" % (count, len(others))]))
     return count > 0 and not others
 
@@ -63,8 +63,8 @@ def explained():
     with open(os.path.join(os.path.dirname(os.path.abspath(__file__)), "differences.txt")) as file:
         for line in file:
             if line.strip() and not line.startswith("#"):
-                name, said = line.split(None, 1)
-                found[name] = said.strip().split(":")[0]
+                name, outcome = line.split(None, 1)
+                found[name] = outcome.strip().split(":")[0]
     return found
 
 
@@ -74,9 +74,9 @@ def suite(program, room, folder):
         wanted = {"valid": "accepted", "invalid": "refused"}.get(name.split(os.sep)[0])
         if wanted:
             count += 1
-            said = verdict(program, room, text)
-            if said != wanted:
-                differ[name] = said
+            outcome = verdict(program, room, text)
+            if outcome != wanted:
+                differ[name] = outcome
     known = explained()
     wrong = sorted(name for name in set(differ) | set(known) if differ.get(name) != known.get(name))
     for name in wrong:

@@ -1,5 +1,5 @@
 //! What an upgrade costs at least: each index line is read in one pass that checks all of its JSON and
-//! allocates nothing, and each entry is looked up once. It takes only what the generators of bench/ write:
+//! allocates nothing, and each entry has one lookup. It takes only what the generators of bench/ write:
 //! index lines whose versions are three numbers, and manifests whose entries stand on a line each, with
 //! requirements of one to three numbers.
 //!
@@ -75,7 +75,7 @@ fn read_index(path: &str, texts: &[Vec<u8>], manifests: &mut [Manifest]) -> Resu
 
 fn main() -> Result<(), Box<dyn Error>> {
     let (options, mut files): (Vec<_>, Vec<_>) =
-        std::env::args().skip(1).partition(|word| word.starts_with('-'));
+        std::env::args().skip(1).partition(|arg| arg.starts_with('-'));
     let index = files.pop().ok_or("an index is needed")?;
     let (incompatible, dry_run) = (options.iter().any(|it| it == "-i"), options.iter().any(|it| it == "-n"));
     let texts = files.iter().map(std::fs::read).collect::<Result<Vec<_>, _>>()?;

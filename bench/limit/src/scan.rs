@@ -149,14 +149,14 @@ impl<'a> Scanner<'a> {
         digits.bytes().all(|byte| byte.is_ascii_hexdigit()).then(|| u32::from_str_radix(digits, 16).ok())?
     }
 
-    /// Goes past a word.
-    fn word(&mut self, word: &[u8]) -> Option<()> {
-        self.bytes[self.at..].starts_with(word).then(|| self.at += word.len())
+    /// Skips a literal, such as `true`.
+    fn literal(&mut self, literal: &[u8]) -> Option<()> {
+        self.bytes[self.at..].starts_with(literal).then(|| self.at += literal.len())
     }
 
     fn truth(&mut self) -> Option<bool> {
         let value = self.peek()? == b't';
-        self.word(if value { b"true" } else { b"false" })?;
+        self.literal(if value { b"true" } else { b"false" })?;
         Some(value)
     }
 
@@ -195,7 +195,7 @@ impl<'a> Scanner<'a> {
             b'{' => self.members(b'}', depth, true),
             b'[' => self.members(b']', depth, false),
             b't' | b'f' => self.truth().map(drop),
-            b'n' => self.word(b"null"),
+            b'n' => self.literal(b"null"),
             _ => self.number(),
         }
     }

@@ -52,17 +52,17 @@ fn workspace_manifests(path: &str) -> Result<Vec<String>, Box<dyn Error>> {
 
 fn read_arguments() -> Result<Arguments, Box<dyn Error>> {
     let mut arguments = Arguments::default();
-    let mut words = std::env::args().skip(1);
-    while let Some(word) = words.next() {
-        match word.as_str() {
+    let mut args = std::env::args().skip(1);
+    while let Some(arg) = args.next() {
+        match arg.as_str() {
             "-i" => arguments.options.incompatible = true,
             "--pinned" => arguments.options.pinned = true,
             "-n" => arguments.dry_run = true,
             "--metadata" => {
-                let path = words.next().ok_or("--metadata needs a file")?;
+                let path = args.next().ok_or("--metadata needs a file")?;
                 arguments.manifests.extend(workspace_manifests(&path)?);
             }
-            _ => arguments.manifests.push(word),
+            _ => arguments.manifests.push(arg),
         }
     }
     arguments.index = arguments.manifests.pop().ok_or("an index is needed")?;

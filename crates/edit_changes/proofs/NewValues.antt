@@ -108,7 +108,7 @@ new_shows made p (a_string s) = ap (λ (t : List ℕ). Some (string t)) (literal
 new_shows made p (a_truth b) = refl
 new_shows made p (a_list ss) = ap (λ n. Some (static_array n)) (count_literals ss)
 
--- a place below, told by the steps from the place on
+-- a place below another one, by the steps between them
 same_front : (p q r : Place) → same_place (p ++ q) (p ++ r) ≡ same_place q r
 same_front [] q r = refl
 same_front (s ∷ p) q r = ap (λ b. b && same_place (p ++ q) (p ++ r)) (same_step_self s) ∙ same_front p q r

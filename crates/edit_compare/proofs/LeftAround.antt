@@ -64,7 +64,7 @@ moved_else (s ∷ q) t r (u ∷ us) e = moved_cons s u q t r us ∙ go (same_ste
     go true f ih = ap (λ z. u ∷ z) (ih f)
     go false f ih = refl
 
--- a step more that goes is as one that goes, where another step is looked at
+-- where the first steps differ, a longer place that is removed moves another one as its first step alone does
 pub moved_flat : (t s : Step) (r k : Place) → (s ≡ t → ⊥) → (r ≡ []) ⊎ ((n : List ℕ) × (t ≡ key n))
     → place_after_removal (t ∷ r) (s ∷ k) ≡ place_after_removal (t ∷ []) (s ∷ k)
 moved_flat t s [] k ne flat = refl

@@ -38,7 +38,7 @@ above_seen (s ∷ t ∷ ts) n e =
     ap (λ (j : ℕ). place_view (take j (s ∷ t ∷ ts))) k
     ∙ ap (λ (p : Place). step_view s ∷ p) (above_seen (t ∷ ts) (length ts) rest)
 
--- an inline table is told by its kind
+-- an inline table is recognized by its kind
 pub inline_kind : (v : View) (k : ℕ) → k ≡ kind_of v → eqb k 8 ≡ is_inline_table (Some v)
 inline_kind v k e = ap (λ (j : ℕ). eqb j 8) e ∙ go v
   where

@@ -12,7 +12,7 @@ use Rattle.edit_tree.proofs.SamePlace.{not_root}
 use Rattle.edit_tree.proofs.MoreAssertions.{first_kind}
 use Rattle.edit_document.proofs.AssertedModels.{Lists, Stands, was_asserted, step_below}
 
--- an element stands where a spot lists it
+-- an element exists where a model node lists it
 listed_stands : (made : List Assertion) (written : List Placed) (models : List ModelNode) (t : ℕ) (s : ModelNode) (i : ℕ)
     → Stands made written models → slice_get models t ≡ Some s → i < length s.elements → (k : Kind)
     × (kind_at made (at s.place (index i)) ≡ Some k)

@@ -21,7 +21,7 @@ pub kind_shown : (d : DocumentViews) (nodes : List Node) (models : List ModelNod
 kind_shown d nodes models n node x f is =
     sym (ap kind_of f.view ∙ ap (λ (y : Content). kind_of (content_view d node y)) is)
 
--- and in which words
+-- the text of the content is that of the view
 pub value_text_shown : (d : DocumentViews) (nodes : List Node) (models : List ModelNode) (n : ℕ) (node : Node) (x : Content)
     → Found d nodes models n node → node.content ≡ x → value_text (content_view d node x)
     ≡ value_text (node_view d n)

@@ -188,7 +188,7 @@ pub answer_memory : (r : Result DocumentViews Error) (e e2 : Error) (P : Documen
 answer_memory r e e2 P was same m = subst (λ (x : Result DocumentViews Error). MatchResult x P IsMemory) (sym was)
     (subst IsMemory (sym same) m)
 
--- a text over whose marks no walk ends is no document, whatever form it has
+-- a text over whose tokens no walk ends is no document, whatever form it has
 pub no_document : (bytes : List ℕ) → IsUtf8 bytes → model_nodes_of bytes ≡ None → (form : Text)
     → IsDocument bytes form → ⊥
 no_document bytes u none form m =

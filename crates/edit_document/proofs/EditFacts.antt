@@ -72,7 +72,7 @@ pub removes : (old : List ℕ) (place : Place) (new : List ℕ)
     → is_met (form_of old) (is_left (removed_text place) new) ≡ true → Removes old place new
 removes old place new e = meets old (is_left (removed_text place) new) e
 
--- it is told whether one pair alone names a place
+-- the answer says whether one pair alone names a place
 abbrev pub is_one_pair : Place → Bool → Text → Bool
 is_one_pair place true form = is_one_statement form place
 is_one_pair place false form = not (is_one_statement form place)

@@ -57,7 +57,7 @@ form_spells bytes form e = go (lines_at 80 (length (skip_byte_order_mark bytes) 
 
 -- ---- the tree
 
--- the nodes of the walk over the marks of a form
+-- the nodes of the walk over the tokens of a form
 abbrev nodes_along : List ℕ → Option Text → List (Place × View)
 nodes_along bytes o = node_views (o >>= λ form. state_after bytes (tokens_of_text form) start >>= λ st. Some st.models)
 

@@ -21,7 +21,7 @@ use Rattle.edit_document.proofs.MemberAssertions.{Makes, makes, fails, makes_alo
 use Rattle.edit_document.proofs.HeaderFronts.{super_makes}
 use Rattle.edit_tree.proofs.WalkedTokens.{fore, rear}
 
--- the spots stand for these assertions, and a place has a number; or the assertions clash
+-- the model nodes represent these assertions, and a place has a number; or the assertions clash
 pub data Lands (models : List ModelNode) (made : List Assertion) (written : List Placed) (place : Place)
     (r : Option (List ModelNode × ℕ)) : Type 0 where
   lands : (now : List ModelNode) (j : ℕ) → r ≡ Some (now, j) → Stands made written now → StandsAt now j place

@@ -79,7 +79,7 @@ vacant made within by p n ns v clear = go (kind_at made (named p (n ∷ ns))) re
             pick true g ih = g
             pick false g ih = ih g
 
--- ---- a span that is told otherwise
+-- ---- a span that is replaced
 
 span_middle : (ws vs : List Placed) (q : Place) (x : Span) → span_at ws q ≡ None
     → span_at (ws ++ (q, x) ∷ vs) q ≡ Some x
@@ -99,7 +99,7 @@ span_off [] vs q p x y ne = ap (λ (b : Bool). cond b (Some x) (span_at vs p)) (
 span_off (w ∷ ws) vs q p x y ne = ap (λ (o : Option Span). cond (same_place w.0 p) (Some w.1) o)
     (span_off ws vs q p x y ne)
 
--- the spot of the place is told otherwise too
+-- the model node of the place has the new span too
 respanned : (made : List Assertion) (ws vs : List Placed) (models : List ModelNode) (q : Place) (x y : Span) (j : ℕ)
     (s : ModelNode) → Stands made (ws ++ (q, x) ∷ vs) models → span_at ws q ≡ None → slice_get models j ≡ Some s
     → s.place ≡ q

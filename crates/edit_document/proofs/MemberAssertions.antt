@@ -27,7 +27,7 @@ use Rattle.edit_tree.proofs.Trees.{Grows, grows_set, Gains}
 use Rattle.edit_document.proofs.AssertedModels.{IsIndexed, noted, shape_of_kind, Stands, stands_again}
 use Rattle.edit_document.proofs.NewAssertions.{Shows, stands_gained, gained_grows, gained_last}
 
--- the spots stand for one assertion more, whose place has a number; or it clashes
+-- the model nodes represent one more assertion, whose place has a number; or it clashes
 pub data Makes (made : List Assertion) (written : List Placed) (models : List ModelNode) (a : Assertion)
     (more : List Placed) (r : Option (List ModelNode × ℕ)) : Type 0 where
   makes : (now : List ModelNode) (j : ℕ) → r ≡ Some (now, j) → Stands (made ++ a ∷ []) (written ++ more) now

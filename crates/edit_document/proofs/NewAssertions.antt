@@ -26,7 +26,7 @@ abbrev pub more_elements : Step → ℕ → ℕ
 more_elements (key n) m = m
 more_elements (index i) m = suc m
 
--- a spot with a step more shows the name or the element more
+-- a model node with one more step shows one more name or element
 pub record Shows (s s2 : ModelNode) (x : Step) : Type 0 where
   pub shape : s2.shape ≡ s.shape
   pub taken : s2.taken ≡ s.taken

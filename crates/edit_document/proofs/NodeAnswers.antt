@@ -24,7 +24,7 @@ use Rattle.edit_document.proofs.ShownForms.{shown_bytes}
 use Rattle.edit_document.proofs.Views.{Opened, opened, Found, view_model}
 use Rattle.edit_document.proofs.Wholes.{stands_of}
 
--- the spots of a document stand for the assertions of its form
+-- the model nodes of a document represent the assertions of its form
 pub stood : (inside : Inside) (d : DocumentViews) (read : IsRead inside) (view : document_view_of inside ≡ d)
     → IsUtf8 (string_bytes inside.text) → (form : Text) → IsDocument d.bytes form
     → Stands (assertions form) (map placed (values form)) (opened inside d read view).models
@@ -69,7 +69,7 @@ module _ (d : DocumentViews) (nodes : List Node) (opens : Opened d nodes) (n : �
   element_answer e = here_is ∙ headed_states form opens.models n f.model st f.stands upper name there Element
       (taken Element e) refl refl
 
-  -- the names that are seen are the spot's
+  -- the names in the view are those of the model node
   names_are : node.taken ≡ Dotted → names_in (node_view d n) ≡ names_of f.model
   names_are e =
       ap (λ v. names_in v) (view_model d opens.models n f.model opens.nodes_are opens.tree f.stands)

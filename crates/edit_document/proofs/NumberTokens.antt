@@ -40,7 +40,7 @@ number_plain (float f) h s = let a = float_ascii f h in (a.0, all_ascii (value (
 number_plain (datetime d) h s = let a = datetime_ascii d h in (a.0, all_ascii (value (datetime d) []) a.1)
 number_plain _ h s = absurd s
 
--- the mark of a number
+-- the token of a number
 abbrev token_of_number : Value → List ℕ → SyntaxToken
 token_of_number v rest = token_between (value_kind v) (value v rest) rest
 
@@ -73,7 +73,7 @@ token_at k bytes text token_text rest e d says ends is =
     let at = ends.1 ∙ ap (λ (t : List ℕ). ends.0 ++ t) whole in
     (token_text, is, (ends.0, token_text, rest, at, ap length whole, refl, says))
 
--- the mark of a number is the mark of a token
+-- the token of a number satisfies the rules of a token
 pub number_token : (bytes : List ℕ) (v : Value) (rest : List ℕ) → IsValue v → IsNumber v
     → Ends bytes (value v rest) → IsToken bytes (token_of_number v rest)
 number_token bytes (integer n) rest h s ends e =
@@ -90,7 +90,7 @@ number_token bytes (datetime d) rest h s ends e =
     (value_rest (datetime d) rest) refl (a.0, a.1, refl) ends (number_said bytes (datetime d) rest h s ends)
 number_token bytes _ rest h s ends e = absurd s
 
--- the walk takes the mark of a number for what it shows
+-- the walk reads the token of a number as its value
 pub number_step : (bytes : List ℕ) (v : Value) (rest : List ℕ) → IsValue v → IsNumber v
     → Ends bytes (value v rest) → (st : State) → step bytes (token_of_number v rest) st
     ≡ value_added st (shape_of_value v) (Some (span_of v rest))

@@ -111,7 +111,7 @@ own_dotted Dotted e f = true≢false (sym e)
 own_dotted Super e f = true≢false (sym e)
 own_dotted Array e f = true≢false (sym e)
 
--- ---- spots
+-- ---- model nodes
 
 module _ (form : Text) (models : List ModelNode) (n : ℕ) (s : ModelNode)
     (st : Stands (assertions form) (map placed (values form)) models)

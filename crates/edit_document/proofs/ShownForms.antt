@@ -41,7 +41,7 @@ shows_tree inside shown form read view manifest place =
 
 -- ---- the pieces
 
--- the text is kept in what was written last and what stands around it
+-- the pieces of the text are the range written last and the text around it
 pub pieces_written : (inside : Inside) (shown : DocumentViews) → document_view_of inside ≡ shown
     → shown.pieces ≡ pieces_of shown.bytes inside.written
 unfolding document_view_by
@@ -55,7 +55,7 @@ pub range_written : (inside : Inside) (shown : DocumentViews) → IsRead inside 
 range_written inside shown read view =
     subst (λ (b : List ℕ). IsRange b inside.written) (shown_bytes inside shown view) read.written
 
--- another range of the text may be kept
+-- another range of the text may be the one written last
 pub read_again : (inside : Inside) (shown : DocumentViews) (w : ℕ × ℕ) → IsRead inside
     → document_view_of inside ≡ shown
     → IsRange shown.bytes w → IsRead (record { text = inside.text; nodes = inside.nodes; written = w })

@@ -20,7 +20,7 @@ use Rattle.edit_document.proofs.ShownForms.{shown_bytes, form_same, open_models,
 use Rattle.edit_document.proofs.Views.{Opened, found}
 use Rattle.edit_syntax.proofs.Cases.{by_test}
 
--- ---- the span that is told at a place is that of a value there
+-- ---- the span at a place is that of a value there
 
 span_value : (ws : List PlacedValue) (p : Place) (s : Span) → span_at (map placed ws) p ≡ Some s
     → (w : PlacedValue)
@@ -87,7 +87,7 @@ none_value inside shown form p read view manifest none =
 
 -- ---- nodes
 
--- the span of a node is the one that is told at its place
+-- the span of a node is the one at its place
 node_span : (inside : Inside) (shown : DocumentViews) (n : ℕ) (node : Node) (form : Text) (p : Place)
     → (read : IsRead inside) → document_view_of inside ≡ shown → IsDocument shown.bytes form
     → node_place shown n ≡ p → n < length shown.nodes → node ≡ get_or inside.nodes.items n node
@@ -121,7 +121,7 @@ spanless_value inside shown form p n node read view manifest there lt is none =
     none_span : (t : Span) → None ≡ Some t → ⊥
     none_span t h = cc
 
--- and where it has one, it tells where the value is written
+-- and where it has one, the span is where the value is written
 pub spanned_value : (inside : Inside) (shown : DocumentViews) (form : Text) (p : Place) (n : ℕ) (node : Node)
     (s : Span) (len : ℕ) → IsRead inside → document_view_of inside ≡ shown → IsDocument shown.bytes form
     → node_place shown n ≡ p → n < length shown.nodes

@@ -14,7 +14,7 @@ use Rattle.edit_document.specs.Items.{viewed, node_place, node_view}
 use Rattle.edit_tree.proofs.SamePlace.{same_place_self, same_place_is, other_place}
 use Rattle.edit_tree.proofs.ModelNodes.{model_of_node}
 
--- a document that is open: its spots, and the nodes that keep them
+-- a document that is open: its model nodes, and the nodes that represent them
 pub record Opened (shown : DocumentViews) (nodes : List Node) : Type 0 where
   pub models : List ModelNode
   pub nodes_are : shown.nodes ≡ map model_node_view models
@@ -35,7 +35,7 @@ opened inside shown read view =
       tree = read.tree;
     }
 
--- what a spot shows
+-- the view of a model node
 abbrev pub view_of_model : ModelNode → View
 view_of_model s = view_of_shape s.shape (names_of s) (length s.elements)
 

@@ -70,9 +70,8 @@ pub false_step : (bytes rest : List ℕ)
 unfolding step
 false_step bytes rest st = refl
 
--- where a walk stands before a value: the spots, what was asserted and written, the tables that are open, the
--- place of the
--- value, and what is asserted there for a value
+-- the state of a walk before a value: the model nodes, what was asserted and written, the open tables, the
+-- place of the value, and what is asserted there for a value
 pub record Before : Type 0 where
   pub models : List ModelNode
   pub made : List Assertion
@@ -175,7 +174,7 @@ deeper base t j =
     let b : length (base ++ t ∷ []) ≡ length base + 1 = length-append base (t ∷ []) in
     grind (arith, nat_tests)
 
--- a value that holds others: its first mark opens it, its last mark ends it
+-- a value that holds others: its first token opens it, its last token ends it
 module _ (bytes : List ℕ) (v : Value) (rest behind : List ℕ) (first_token last_token : SyntaxToken) (tokens : List SyntaxToken)
     (b : Before) (h : IsBefore b)
     (opens : (st : State)
@@ -197,7 +196,7 @@ module _ (bytes : List ℕ) (v : Value) (rest behind : List ℕ) (first_token la
   all_made : keyed_made ++ inner ≡ made_by b v
   all_made = append_assoc b.made (b.keyed v) (of_value b.place v)
 
-  -- behind what it holds comes its last mark
+  -- its last token follows what it holds
   closing : (now : List ModelNode) (j : ℕ)
       → Stands (b.made ++ b.keyed v)
       (b.written ++ (b.place, record { from = length (value v rest); to = length behind }) ∷ []) now

@@ -147,7 +147,7 @@ lines_walked bytes (more_lines (full_line a s b c) e ls) models made written t p
     ap (λ (w : List Placed). written ++ w)
     (sym (map-append placed (in_statement p s after) (in_lines next (prefix_after made p s) ls)))) all
 
--- the walk over the marks of a text
+-- the walk over the tokens of a text
 pub text_walked : (bytes : List ℕ) (form : Text) → AreLines form.lines → IsUtf8 bytes
     → Ends bytes (lines form.lines)
     → Walked (assertions form) (map placed (values form)) (state_after bytes (tokens_of_text form) start)

@@ -23,7 +23,7 @@ use Rattle.edit_tree.proofs.Keyed.{tabular, AreUnder, under_tables, first_table,
 use Rattle.edit_document.proofs.AssertedModels.{Stands, Lists, shape_of_kind, was_asserted, short_at}
 use Rattle.edit_document.proofs.Wholes.{stands_of, name_at, element_is, keys_below, named_below, numbered_below}
 
--- ---- what stands below a spot is numbered
+-- ---- every part below a model node is numbered
 
 shape_tabular : (k : Kind) → tabular k ≡ true → (shape_of_kind k ≡ section) ⊎ (shape_of_kind k ≡ inlined)
 shape_tabular (dotted true) e = inr refl
@@ -88,7 +88,7 @@ below_listed models tree n s x here j t there p =
           (j, ap (λ (u : ModelNode). below u x) (sym model) ∙ ap (below m.upper) (sym same.1) ∙ m.listed)
     ]
 
--- a shape in place of a spot's own
+-- another shape equal to that of a model node
 in_shape : (s : ModelNode) (a : Shape) (i : ℕ) (step : Step) → s.shape ≡ a
     → nth_part (view_of_shape a (names_of s) (length s.elements)) i ≡ Some step
     → nth_part (view_of_model s) i ≡ Some step
@@ -135,7 +135,7 @@ short_model made written models n s st here = go s.place refl
     go (x ∷ xs) e = short_at made s.place (st.tells n s here).kind st.clear.short
         (was_asserted (st.tells n s here) (λ root. let clash : x ∷ xs ≡ [] = sym e ∙ root in cc))
 
--- ---- what a document tells of a node
+-- ---- what a document says of a node
 
 whole_of : (d : DocumentViews) (nodes : List Node) (made : List Assertion) (written : List Placed) (n : ℕ)
     (node : Node) (opens : Opened d nodes) → Found d nodes opens.models n node → AreUnder made made

@@ -25,7 +25,7 @@ use Rattle.edit_document.proofs.AssertedModels.{Stands, shape_of_kind}
 use Rattle.edit_document.proofs.WalkedLines.{Walked as Walks, ended, stuck}
 use Rattle.edit_document.proofs.Documents.{read_of, walk_of}
 
--- the spots of a document that was read stand for its assertions
+-- the model nodes of a document that was read represent its assertions
 pub stands_of : (inside : Inside) → (read : IsRead inside) → IsUtf8 (string_bytes inside.text)
     → Stands (assertions read.form) (map placed (values read.form)) read.models
 stands_of inside read u = go (walk_of bytes form (read_of bytes form read.manifest u))
@@ -193,7 +193,7 @@ pub named_below : (made : List Assertion) (written : List Placed) (models : List
 named_below made written models n s st here = let t = st.tells n s here in
     names_of_shape s s.shape (λ v e. scalar_bare t.kind v (sym t.shape ∙ e))
 
--- what a view numbers stands below its spot
+-- each part that a view numbers has a node below that of the view
 pub numbered_below : (made : List Assertion) (written : List Placed) (models : List ModelNode) (n : ℕ) (s : ModelNode)
     → Stands made written models → slice_get models n ≡ Some s → Parts s s.shape
 numbered_below made written models n s st here = let t = st.tells n s here in

@@ -36,7 +36,7 @@ pub dry_after : (rows : List Row) (due : Bool) (s : ℕ) → s ≡ status_after 
 dry_after rows due s is one =
     dry_by (is_given (codes "dry-run") rows) (is_given (codes "check") rows) due s is one
 
--- and a check is asked for
+-- and the check is requested
 check_by : (input_report due : Bool) (s : ℕ) → s ≡ (if input_report && due then 1 else 0) → s ≡ 1
     → input_report ≡ true
 check_by true due s is one = refl

@@ -13,7 +13,7 @@ use Rattle.edit_program.specs.Run.{run_at}
 use Rattle.edit_program.specs.Runs.{HasUsageError, IsAnswered, IsEnded, IsRunCause, status_of}
 use Rattle.edit_program.proofs.CommandLemmas.{answered}
 
--- what was printed in place of matches answers the words
+-- the exit code for what was printed in place of matches is that of the arguments
 shown_is : (app : App) (args : List Text) (e : Error) (r : Result ℕ RunError) → app ≡ edit_app
     → (takes app args ≡ true → kind_of e ≡ OutOfMemory)
     → HasKind (fault_of app args) e

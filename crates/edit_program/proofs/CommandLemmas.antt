@@ -9,7 +9,7 @@ use Rattle.clap.specs.declared.parser.matches.ArgMatches.TheViews.{out-ArgMatche
 use Rattle.edit_words.specs.CommandLine.{edit_app}
 use Rattle.edit_program.specs.Runs.{IsNotParsed, HasParsedArgs, IsAnswered, HasNoSubcommand, status_of}
 
--- words that are matched are taken
+-- arguments that are matched are accepted
 taken_by : (app : App) (args : List Text) → app ≡ edit_app → fault_of app args ≡ []
     → fault_of edit_app args ≡ []
 taken_by app args is taken = ap (λ (a : App). fault_of a args) (sym is) ∙ taken
@@ -28,13 +28,13 @@ map_map : {A B C : Type 0} (f : A → B) (g : B → C) (o : Option A)
 map_map f g None = refl
 map_map f g (Some a) = refl
 
--- the subcommand of the words is the one that was met
+-- the subcommand of the arguments is the one that was matched
 met_by : (app : App) (args : List Text) (m : ArgMatches) → app ≡ edit_app → is_simple app ≡ true
     → HasMatchesOf app args m → subcommand_of edit_app args ≡ subcommand_rows_of m
 met_by app args m is simple matches =
     ap (λ (a : App). subcommand_of a args) (sym is) ∙ sym (matches simple).1
 
--- the words name this subcommand, and its matches are those that were met
+-- the arguments name this subcommand, and its matches are those that were made
 pub entered_by : (app : App) (args : List Text) (m sub : ArgMatches) (name : Text) → app ≡ edit_app
     → is_simple app ≡ true → HasMatchesOf app args m → fault_of app args ≡ []
     → Some name ≡ subcommand_name_of m
@@ -54,7 +54,7 @@ no_name : (o : Option (Text × List Row)) → option_map (λ (p : Text × List R
 no_name None is = refl
 no_name (Some p) is = cc
 
--- the words name no subcommand, and none was met
+-- the arguments name no subcommand, and none was matched
 pub none_by : (app : App) (args : List Text) (m : ArgMatches) → app ≡ edit_app → is_simple app ≡ true
     → HasMatchesOf app args m → fault_of app args ≡ [] → None ≡ subcommand_name_of m
     → HasNoSubcommand args
@@ -66,13 +66,13 @@ none_by app args m is simple matches taken named =
       none = met_by app args m is simple matches ∙ no_name (subcommand_rows_of m) (alike ∙ sym named);
     }
 
--- words that are refused, and not for want of memory, are not taken
+-- arguments that give an error other than a lack of memory are not accepted
 pub not_taken : (app : App) (args : List Text) (e : Error) → app ≡ edit_app
     → (takes app args ≡ true → kind_of e ≡ OutOfMemory)
     → (kind_of e ≡ OutOfMemory → ⊥) → IsNotParsed args
 not_taken app args e is passes other taken = other (passes (ap (λ (a : App). takes a args) is ∙ taken))
 
--- and the kind of the refusal is one that they may have
+-- and the kind of the error is one that they may have
 among : (kinds : Kinds) (e : Error) → HasKind kinds e → (kind_of e ≡ OutOfMemory → ⊥)
     → IsAmong (kind_of e) kinds
 among kinds e (inl memory) other = absurd (other memory)

@@ -100,7 +100,7 @@ raised_later a b c le (inl lt) = inl (omega arith)
 raised_later a b c le (inr ends) = ⊎_elim (λ same. inr (same ∙ ends.0, ends.1)) (λ lt. inl (omega arith))
     (eq-or-lt_of_le le)
 
--- a refusal of the device is one from an earlier count on
+-- an error of the device after a count of faults is one after an earlier count
 pub refused_later : (of : DeviceCall) (old mid new : StoreView) (e : Error) → old.faults ≤ mid.faults
     → IsCallError of mid new e → IsCallError of old new e
 refused_later of old mid new e later (inl memory) = inl memory

@@ -23,14 +23,14 @@ use Rattle.edit_upgrade.specs.declared.decision.options.Options.{Options}
 use Rattle.edit_upgrade.specs.declared.upgrade.UpgradePlan.{UpgradePlan}
 use Rattle.edit_program.specs.Planned.{IsPlanCause, IsPlanStopped, IsPlanned, empty_answers, cache_over}
 
--- nothing is kept in a new cache
+-- a new cache is empty
 nothing : {I : Type 0} (cache : IndexCache I)
     → ((address name : List ℕ) → cached_answer_at cache address name ≡ None)
     → cached_by cache ≡ empty_answers
 nothing cache empty =
     fun_ext (λ address. fun_ext (λ name. ap (option_map answer_of) (empty address name)))
 
--- of the cache behind a plan only the answers that are kept count
+-- of the cache after a plan only its cached answers count
 answers_count : (o : Options) (inputs : List Input) (configs : List (Vec Config)) (old now : CacheView)
     (view : IndexView) (p : UpgradePlan) → IsPlan o inputs configs old now p
     → IsPlan o inputs configs old (cache_over view now.cached) p

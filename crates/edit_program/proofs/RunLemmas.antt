@@ -10,7 +10,7 @@ use Rattle.edit_program.specs.Commands.{HasSubcommandUsageError, IsBrokenBy, IsC
 use Rattle.edit_program.specs.Run.{Run}
 use Rattle.edit_program.specs.Runs.{HasUsageError, HasCheckFlag, HasFound, HasParsedArgs, IsDone, IsEnded, IsRunFailure, IsRunCause}
 
--- a fault of the subcommand is one of the words
+-- a usage error of the subcommand is one of the arguments
 pub command_fault : (args : List Text) (name : Text) (rows : List Row) (r : Result ℕ RunError)
     → HasParsedArgs args name rows → IfOk r (λ s. s ≡ 2 → HasSubcommandUsageError name rows)
     → IfOk r (λ s. s ≡ 2 → HasUsageError args)

@@ -8,7 +8,7 @@ use Rattle.edit_report.specs.Applied.{AreWritten, AreWrittenOnce, HasStopped, Ha
 use Rattle.edit_report.specs.declared.output.Output.{Output}
 use Rattle.edit_store.specs.Store.{Files, IsWrittenAtMostOnce, IsWrittenOnce, SameBut, SameFiles, StoreView}
 
--- what holds anyway holds of a refusal
+-- what holds in any case holds of an error
 pub on_failure : {T E : Type 0} (r : Result T E) (P : Type 0) → P → OnErr r P
 on_failure (Ok x) P p = tt
 on_failure (Err e) P p = p

@@ -77,7 +77,7 @@ stands_between bytes form w a m u f =
       to_is = f.to;
     }
 
--- the code tells it by what follows
+-- the code finds it by what follows
 pub found_at : (bytes : List ℕ) (form : Text) (p : Place) (start end : ℕ) (a : Around) → IsDocument bytes form
     → IsUtf8 bytes → (r : IsWrittenAt form p start end) → a.steps ≡ length p → a.from ≡ length bytes - start
     → a.to ≡ length bytes - end → IsFoundAt form r.placed_value a
@@ -98,7 +98,7 @@ found_at bytes form p start end a m u r steps from to =
 
 -- ---- other bytes there
 
--- what stands between the spots of a value is the value
+-- the text between the offsets of a value is the value
 pub value_between : (bytes : List ℕ) (w : PlacedValue) (from to : ℕ) → StandsBetween bytes w from to
     → cut_from bytes (length bytes - from) (length bytes - to) ≡ value w.value []
 value_between bytes w from to s =
@@ -133,7 +133,7 @@ not_number b h = grind (arith, nat_tests)
 never : {P : Type 0} (b : Bool) → b ≡ false → b ≡ true → P
 never b f t = absurd (true≢false (sym t ∙ f))
 
--- the first byte tells them from other values
+-- the first byte distinguishes them from other values
 pub first_tells : (v : Value) → IsValue v → Decides (opens_container (first (value v []))) (IsContainer v)
 first_tells (array g es) h = ((λ e. tt), (λ e. refl))
 first_tells (inline g ms) h = ((λ e. tt), (λ e. refl))

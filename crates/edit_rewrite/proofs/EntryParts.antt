@@ -45,13 +45,13 @@ part_or place table n (m ∷ ns) =
     go true ih = refl
     go false ih = ih
 
--- ---- marks
+-- ---- tokens
 
 none_more : (e : ℕ) (ms : List SyntaxToken) → begins_part ms ≡ false → key_end e ms ≡ e
 none_more e [] h = refl
 none_more e (m ∷ ms) h = ap (λ (b : Bool). cond b (key_end m.to ms) e) h
 
--- the last part of a key ends where the last of its marks does
+-- the last part of a key ends where the last of its tokens does
 pub key_ends : (bytes : List ℕ) (e : ℕ) (n : Named) (ns : List Named) (ms : List SyntaxToken)
     → AreParts bytes (n ∷ ns) ms → key_end e ms ≡ length (last_part n ns)
 key_ends bytes e n ns [] h = absurd h

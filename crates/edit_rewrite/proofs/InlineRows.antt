@@ -86,7 +86,7 @@ own_table form place start end clash written shows =
 
 -- ---- the row
 
--- a value stands where it is told to begin
+-- a value begins at its offset
 stands_from : (bytes : List ℕ) (form : Text) (w : PlacedValue) (start : ℕ) → IsDocument bytes form
     → StandsIn bytes w → start ≡ start_of (length (text form)) w → drop start bytes ≡ value w.value w.after
 stands_from bytes form w start m stands e =
@@ -94,7 +94,7 @@ stands_from bytes form w start m stands e =
     ∙ ap (λ (b : List ℕ). drop (start_of (length b) w) bytes) (sym m.grammar.spelled)
     ∙ drop_front bytes stands.ends.0 (value w.value w.after) stands.ends.1
 
--- a table stands where it is told to begin
+-- a table begins at its offset
 pub table_from : (bytes : List ℕ) (form : Text) (place : Place) (start : ℕ) → IsDocument bytes form
     → IsUtf8 bytes → (t : StartsTable form place start)
     → TableAt bytes (drop start bytes) t.between t.all t.placed_value.after

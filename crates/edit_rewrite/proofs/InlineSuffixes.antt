@@ -48,7 +48,7 @@ table_past text table g ms after rest h e =
     ap (λ (x : List ℕ). folded past_value x (of_members ms) (right_brace ∷ after))
     (e ∙ members_come text table g ms after h) ∙ last_past ms (right_brace ∷ after)
 
--- ---- spots
+-- ---- offsets
 
 blank_low : (b : ℕ) → is_blank b ≡ true → b < 128
 blank_low b e = grind (arith, nat_tests)

@@ -34,7 +34,7 @@ front_way n target le = sym (way_front 0 n target le ∙ ap On (let k : 0 + n �
 
 -- ---- one table
 
--- what is told of the pairs of the value at a front of the place
+-- the result for the pairs of the value at a prefix of the place
 pub inner_offsets : (form : Text) (place : Place) (n : ℕ) (w : PlacedValue) (o : Option (ℕ × ℕ))
     → AreCompatible (assertions form)
     → Among w (values form) → w.place ≡ take n place → HasPairOffsets place (paired_value w) o

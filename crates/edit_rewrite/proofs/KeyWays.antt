@@ -22,7 +22,7 @@ use Rattle.edit_tree.proofs.WalkedTokens.{said_part}
 use Rattle.edit_document.proofs.TextTokens.{part_token}
 use Rattle.edit_rewrite.proofs.Ways.{way_at, same_is}
 
--- ---- the marks of a key
+-- ---- the tokens of a key
 
 part_says : (bytes : List ℕ) (p : Part) (rest : List ℕ) → IsPart p → IsUtf8 bytes → Ends bytes (part p rest)
     → IsDecodedAt bytes (token_of_part p rest) (name p)
@@ -135,14 +135,14 @@ more_along bytes target counts resolve table n (n2 ∷ ns) m ms start here next 
     go true = ap (λ (k : ℕ). Some k) h.2
     go false = ways.1
 
--- ---- the same of marks that are not taken apart
+-- ---- the same for tokens as a whole
 
 pub says_first : (bytes : List ℕ) (n : Named) (ns : List Named) (tokens : List SyntaxToken) (x : SyntaxToken)
     → AreParts bytes (n ∷ ns) tokens → IsDecodedAt bytes (get_or tokens 0 x) n.0
 says_first bytes n ns [] x h = absurd h
 says_first bytes n ns (m ∷ ms) x h = h.1
 
--- the marks behind the first
+-- the tokens after the first
 abbrev pub others : List SyntaxToken → List SyntaxToken
 others tokens = take (length tokens - 1) (drop 1 tokens)
 
@@ -217,7 +217,7 @@ pub header_led : (earlier : List Assertion) (k : Key) (rest : List ℕ)
 header_led earlier k rest = led_header earlier [] (parts k rest) ∙
     ap (header_place earlier []) (names_are k rest)
 
--- ---- the mark behind a key
+-- ---- the token after a key
 
 pub head_turn : (tokens : List SyntaxToken) (i : ℕ) (m : SyntaxToken) → slice_get tokens i ≡ Some m
     → is_part m.kind ≡ true

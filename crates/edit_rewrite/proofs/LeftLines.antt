@@ -44,7 +44,7 @@ lines_chain bytes from earlier prefix (more_lines (full_line a s b c) n ls) vali
 
 -- ---- the turns of the loop
 
--- so much is written, what follows the spot is to come, and these statements are to come
+-- so much is written, what follows the offset is still to be written, and these statements are left
 pub record AtStatement (bytes : List ℕ) (gone : Place) (whole done : List ℕ) (from : ℕ) (left : List Entry)
     : Type 0 where
   pub rest : List ℕ

@@ -46,7 +46,7 @@ module _ (xs : List Entry) (i : ℕ) (lt : i < length xs) where
       → first_result within_entry (take (i + 1) xs) ≡ None
   within_left none h = first_left within_entry xs i no_entry lt none (no _ (get_or xs i no_entry) h)
 
--- ---- where a value ends, by the marks of its pair
+-- ---- where a value ends, by the tokens of its pair
 
 last_of : (e : ℕ) (xs : List SyntaxToken) (m : SyntaxToken) → last_end e (xs ++ m ∷ []) ≡ m.to
 last_of e [] m = refl
@@ -87,7 +87,7 @@ flat_among {X} {Y} f x y (z ∷ xs) (inl e) n =
     among_left y (f z) (flat_map f xs) (subst (λ (w : X). Among y (f w)) e n)
 flat_among f x y (z ∷ xs) (inr m) n = among_right y (f z) (flat_map f xs) (flat_among f x y xs m n)
 
--- the same spots, written otherwise
+-- the same for equal offsets
 pub around_as : (place : Place) (ps : List PlacedPair) (r q : ℕ × ℕ) → IsAround place ps r → q.0 ≡ r.0
     → q.1 ≡ r.1
     → IsAround place ps q
@@ -100,7 +100,7 @@ around_as place ps r q h e f = record {
   to = f ∙ h.to;
 }
 
--- ---- the spots
+-- ---- the offsets
 
 chosen : (b : Bool) (e d : Entry) → cond b (Some e) None ≡ Some d → (b ≡ true) × (d ≡ e)
 chosen true e d h = (refl, cc)

@@ -47,7 +47,7 @@ opens_inline (inline g ms) rest h = refl
 
 -- ---- the loop
 
--- what stands from a member on, behind so many: what is told of these members is told of all
+-- the members that are left after so many: what is found among them is found among all
 pub record MembersLeft (text : List ℕ) (place : Place) (w : PlacedValue) (i size : ℕ) (rest : List ℕ) : Type 0
   where
     pub ms : Members

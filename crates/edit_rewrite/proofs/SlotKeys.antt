@@ -53,7 +53,7 @@ dotted_said bytes (d ∷ ds) rest h ends =
       dotted_said bytes ds rest h.1 (ends_part bytes d.part (dotted ds rest) here),
     )
 
--- the marks of a key say its names
+-- the tokens of a key decode to its names
 pub key_said : (bytes : List ℕ) (k : Key) (rest : List ℕ) → IsKey k → Ends bytes (strings.key k rest)
     → AreDecodedAs bytes (tokens_of_key k rest) (names k)
 key_said bytes k rest h ends = (

@@ -78,7 +78,7 @@ tail_slice : {A : Type 0} (xs : List A) → take (length xs - 1) (drop 1 xs) ≡
 tail_slice [] = refl
 tail_slice (x ∷ xs) = let k : length (x ∷ xs) - 1 ≡ length xs = omega arith in rw k (take-length xs)
 
--- the first of the marks says the first of the names
+-- the first of the tokens decodes to the first of the names
 pub record FirstSaid (text : List ℕ) (tokens : List SyntaxToken) (ns : List (List ℕ)) : Type 0 where
   pub name : List ℕ
   pub others : List (List ℕ)
@@ -101,7 +101,7 @@ pub within_turn : (steps : List WrittenStep) (s : WrittenStep) (name : List ℕ)
 within_turn [] s name others ns le e is = absurd (omega arith)
 within_turn (x ∷ xs) s name others ns le e is = rw (is, e, tail_slice (x ∷ xs)) refl
 
--- ---- refusals
+-- ---- errors
 
 pub keeps_memory : {A : Type 0} (r : Result A Error) (e e2 : Error) (P : A → Type 0) → r ≡ Err e2 → e2 ≡ e
     → IsMemory e → MatchResult r P IsMemory

@@ -163,7 +163,7 @@ slots_front t text below i rest firm commas gaps target at unshut = go at.ss at.
     go (more_slots s c d ss) h e total =
         more_front t text below i rest firm commas gaps target s c d ss h e at.within at.short total
 
--- ---- the same in other words
+-- ---- the same in another form
 
 pub at_with : (t : Bool) (text : List ℕ) (below : Place) (i j : ℕ)
     (rest firm firm' commas commas' gaps gaps' target : List ℕ)

@@ -25,7 +25,7 @@ use Rattle.edit_syntax.proofs.TextLaws.{lines_only}
 use Rattle.edit_document.proofs.Documents.{read_of, ends_all}
 use Rattle.edit_tree.proofs.Shallow.{shallow}
 
--- ---- the marks of a statement
+-- ---- the tokens of a statement
 
 dotted_head : (ds : List Dotted) (rest : List ℕ) (others : List SyntaxToken)
     → kind_after_key (tokens_of_dotted ds rest ++ others) ≡ kind_after_key others

@@ -99,7 +99,7 @@ pub same_is : (target p : Place) → same_place p target ≡ is_at (length targe
 same_is target p = let k : 0 + length target ≡ length target = omega arith in
     same_on 0 target p ∙ ap (λ n. is_at n (path_match target p)) k
 
--- a place on the way is a front of what is looked for
+-- a place on the way is a prefix of the target
 pub record IsFront (d done : ℕ) (target p : Place) : Type 0 where
   pub count : done ≡ d + length p
   pub front : p ≡ take (length p) target

@@ -21,7 +21,7 @@ plain a b c = (a, b, c, [], [])
 abbrev raised : BumpLevel → Parts → Bumped
 raised l v = bump (by_level l) None v
 
--- the first pre-release of a word, or a later one
+-- the first pre-release of a name, or a later one
 abbrev at : List ℕ → ℕ → Parts
 at front n = pre (front ++ decimal n)
 
@@ -99,7 +99,7 @@ no_scheme = refl
 at_end : raised level.Major (plain 18446744073709551615 0 0) ≡ refused AtEnd
 at_end = refl
 
--- a version that is asked for: only upwards
+-- a given version: only upwards
 downgrade : bump (exactly (plain 1 0 0)) None (plain 2 0 0) ≡ lower (plain 1 0 0)
 downgrade = refl
 

@@ -98,7 +98,7 @@ joined_texts sep (x ∷ xs) = ap (λ ts. x.now ++ ts) (rest xs)
     rest [] = refl
     rest (y ∷ ys) = ap (λ ts. (sep ++ y.now) ++ ts) (rest ys)
 
--- the set that decides has who is asked for
+-- the deciding set contains each selected member
 pub wants_selected : (a : SelectionView) (w : SelectedNames) (m : Member) → IsSelectedNames a w
     → is_selected_by w m ≡ is_member_selected a m
 wants_selected a w m is =

@@ -98,7 +98,7 @@ b = record { name = codes "b"; version = zero_one; path = codes "/w/b/Cargo.toml
 abbrev pub two : Project
 two = record { path = codes "/w/Cargo.toml"; tree = tree []; members = b ∷ a ∷ [] }
 
--- the crate is asked for, twice
+-- the crate is selected, twice
 abbrev pub only_a : SelectionView
 only_a = record { packages = codes "a" ∷ codes "a" ∷ []; exclude = []; workspace = false; metadata = None }
 
@@ -140,7 +140,7 @@ c = member_named (codes "c") (codes "/w/c/Cargo.toml") inherited
 abbrev pub d : Member
 d = member_named (codes "root") (codes "/w/Cargo.toml") inherited
 
--- one of them is asked for
+-- one of them is selected
 abbrev pub only_c : SelectionView
 only_c = record { packages = codes "c" ∷ []; exclude = []; workspace = false; metadata = None }
 

@@ -58,7 +58,7 @@ heir = record { name = codes "a"; version = one_zero; path = codes "/w/a/Cargo.t
 abbrev one : Project
 one = record { path = codes "/w/Cargo.toml"; tree = root; members = heir ∷ [] }
 
--- all are asked for
+-- all are selected
 abbrev everything : SelectionView
 everything = record { packages = []; exclude = []; workspace = false; metadata = None }
 

@@ -43,7 +43,7 @@ whole_front [] (suc n) le = refl
 whole_front (x ∷ xs) zero le = absurd (omega arith)
 whole_front (x ∷ xs) (suc n) le = ap (λ t. x ∷ t) (whole_front xs n (omega arith))
 
--- what one of two lists has with a mark
+-- the lines of a kind in two lists are those in one and those in the other
 with_append : (is : LineKind → Bool) (xs ys : List DiffLine)
     → lines_with is (xs ++ ys) ≡ lines_with is xs ++ lines_with is ys
 with_append is xs ys = ap lines_in (filter-append (λ line. is line.0) xs ys)
@@ -73,7 +73,7 @@ new_at None (Some new) = refl
 new_at (Some old) None = refl
 new_at (Some old) (Some new) = new_both (bytes_eq old new) old new (λ e. (bytes_eq-Decides old new).0 e)
 
--- the lines with a mark at the first numbers, where those at each number are those of a list
+-- the lines of a kind at the first numbers, where those at each number are those of a list
 fronts : (is : LineKind → Bool) (at : ℕ → List DiffLine) (xs : List (List ℕ))
     → ((k : ℕ) → lines_with is (at k) ≡ option_to_list (slice_get xs k)) → (n : ℕ)
     → lines_with is (flat_map at (range_with_len 0 n)) ≡ take n xs
@@ -91,14 +91,14 @@ fronts is at xs each (suc n) =
 abbrev numbered_lines : List (List ℕ) → List (List ℕ) → ℕ → List DiffLine
 numbered_lines olds news i = compare_lines_at (slice_get olds i) (slice_get news i)
 
--- the lines that are kept or removed
+-- the lines that are unchanged or removed
 pub keeps_old : (olds news : List (List ℕ)) → lines_with is_old (compare_lines olds news) ≡ olds
 keeps_old olds news =
     fronts is_old (numbered_lines olds news) olds (λ k. old_at (slice_get olds k) (slice_get news k))
     (max (length olds) (length news))
     ∙ whole_front olds _ (omega arith)
 
--- the lines that are kept or added
+-- the lines that are unchanged or added
 pub keeps_new : (olds news : List (List ℕ)) → lines_with is_new (compare_lines olds news) ≡ news
 keeps_new olds news =
     fronts is_new (numbered_lines olds news) news (λ k. new_at (slice_get olds k) (slice_get news k))

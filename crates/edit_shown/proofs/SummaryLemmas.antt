@@ -11,12 +11,12 @@ use Rattle.edit_shown.specs.declared.json.messages.Summary.{Summary}
 use Rattle.edit_upgrade.specs.declared.upgrade.UpgradePlan.{UpgradePlan}
 use Rattle.edit_shown.specs.Messages.{call_texts, summary_members}
 
--- the words of a call
+-- the arguments of a call
 args_data : (args : List (String Global)) → map text_data args ≡ map string (map string_bytes args)
 args_data [] = refl
 args_data (arg ∷ args) = ap (λ ds. text_data arg ∷ ds) (args_data args)
 
--- calls, each as a list of its words
+-- calls, each as a list of its arguments
 calls_data : (calls : List (Vec (String Global) Global))
     → map (λ l. list_data text_data l.items) calls ≡ map (λ call. list_data string call) (call_texts calls)
 calls_data [] = refl

@@ -4,7 +4,7 @@ use Rattle.std.specs.Prelude.{IfErr, IsErrAnd, OnErr}
 use Rattle.edit_base.specs.declared.errors.Error.{Error}
 use Rattle.edit_steps.specs.declared.run_error.RunError.{RunError}
 
--- a refusal that is handed on has the cause of its error
+-- an error that is passed on has the cause of the original error
 pub failure_has : {T : Type 0} (r : Result T RunError) (e : RunError) (P : Error → Type 0)
     → IsErrAnd r (λ other. other ≡ e) → P e.error → IfErr r (λ x. P x.error)
 failure_has (Ok x) e P same h = tt
@@ -16,7 +16,7 @@ pub failure_made : {T : Type 0} (r : Result T RunError) (e : Error) (P : Error �
 failure_made (Ok x) e P same h = tt
 failure_made (Err other) e P same h = subst P (sym same) h
 
--- what holds anyway holds of a refusal
+-- what holds in any case holds of an error
 pub on_failure : {T E : Type 0} (r : Result T E) (P : Type 0) → P → OnErr r P
 on_failure (Ok x) P h = tt
 on_failure (Err e) P h = h

@@ -34,13 +34,13 @@ pub since : (P : Files → Type 0) (old mid : StoreView) → OnlyReads old mid
 since P old mid reads h t =
     as_before P mid.file_at old.file_at (λ path. sym (reads.files path)) (h (sym reads.tells ∙ t))
 
--- a refusal of the device behind reads
+-- an error of the device after reads
 pub refused_on : (of : DeviceCall) (old mid new : StoreView) (e : Error) → OnlyReads old mid
     → IsCallError of mid new e → IsCallError of old new e
 refused_on of old mid new e reads refused =
     fault_later of old.faults mid.faults new.faults e reads.later refused
 
--- a refusal of the device before more reads
+-- an error of the device before more reads
 pub refused_before : (of : DeviceCall) (old mid new : StoreView) (e : Error) → OnlyReads mid new
     → new.faults < 2 ^ 64 → IsCallError of old mid e → IsCallError of old new e
 refused_before of old mid new e reads bound (inl memory) = inl memory

@@ -83,7 +83,7 @@ unequal a b r long off = go (bytes_eq a b) refl
     go true e = absurd (let clash : false ≡ true = sym off ∙
         long (sym (ap length ((bytes_eq-Decides a b).0 e))) in cc)
 
--- ---- contents that are kept
+-- ---- contents that are preserved
 
 -- the span from behind a token's opening delimiter to before its closing one
 pub content_read : (kind : TokenKind) (bytes before content rest said : List ℕ) (from width : ℕ) (span : Span)

@@ -146,7 +146,7 @@ content_found kind bytes before content rest said i j u spelled h e f =
     subst (λ (b : List ℕ). IsContentAt b content i j) (sym whole)
     (content_at (before ++ d) content (d ++ rest) i j parts.0 parts.1 n m)
 
--- where the content of a mark stands
+-- the range of the content of a token
 pub content_range : (kind : TokenKind) (before content rest : List ℕ) (n from to width : ℕ)
     → n ≡ length (before ++ delimited kind content rest) → from ≡ length (delimited kind content rest)
     → to ≡ length rest → width ≡ length (decoding.delimiter kind)

@@ -16,7 +16,7 @@ use Rattle.edit_syntax.proofs.ValueLaws.{elements_sound, value_sound}
 use Rattle.edit_syntax.proofs.ScalarLaws.{Sound}
 use Rattle.edit_syntax.proofs.GapLaws.{front_parts}
 
--- whatever is read from here on, behind these marks, completes what is read from the start behind the old
+-- whatever is read from here on, after these tokens, completes what is read from the start after the old
 -- ones
 pub record Fills (read : List ℕ → Read Value) (total : Read Elements) (count : ℕ) (text : List ℕ)
     (old out : List SyntaxToken) : Type 0 where

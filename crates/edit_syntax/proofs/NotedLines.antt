@@ -30,7 +30,7 @@ header_here : (bytes key_end rest : List ℕ) (k : Key) → key_at (past_blanks 
 unfolding header_at
 header_here bytes key_end rest k key closed = rw (key, ← closed) refl
 
--- the marks of a key and of the header behind it
+-- the tokens of a key and of the header after it
 header_tokens : (kind : TokenKind) (old mid new : List SyntaxToken) (bytes key_end rest tail : List ℕ) (k : Key)
     (s : Statement) → mid ≡ old ++ tokens_of_key k key_end → new ≡ mid ++ (token_between kind bytes rest ∷ [])
     → key_end ≡ tail → bytes ≡ statement s rest
@@ -201,7 +201,7 @@ lines_none total bytes out before = before.none refl
 
 -- ---- the whole
 
--- the form of lines that were read, with its marks
+-- the form of lines that were read, with its tokens
 abbrev pub Found : List ℕ → List SyntaxToken → Type 0
 Found bytes new = (form : Lines) × (bytes ≡ lines form) × AreLines form × (lines_depth form ≤ 80)
     × (new ≡ tokens_of_lines form)

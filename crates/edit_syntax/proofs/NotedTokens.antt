@@ -36,7 +36,7 @@ token_back kind k rest (Some x) e =
     (x.0, ap (λ (r : List ℕ). Some (x.0, r)) (sym b), ap (λ (p : TokenKind × List ℕ). p.0) pairs)
 token_back kind k rest None e = absurd cc
 
--- the mark that was noted is that of the token's form
+-- the token that was recorded is that of its form
 same_token : (j k : TokenKind) (a b rest : List ℕ) → j ≡ k → a ≡ b
     → token_between j a rest ≡ token_between k b rest
 same_token j k a b rest e f = rw (e, f) refl

@@ -117,7 +117,7 @@ made_tokens n read sound count r p ms after sign e =
     (tokens_of_members ms (right_brace ∷ after)) close ∙
     ap (λ (t : List ℕ). tokens_of_pair p t ++ tokens_of_inline_table ms after) (sym whole)
 
--- whatever is read from here on, behind these marks, completes what is read from the start behind the old
+-- whatever is read from here on, after these tokens, completes what is read from the start after the old
 -- ones
 pub record Completes (read : List ℕ → Read Value) (total : Read Members) (count : ℕ) (text : List ℕ)
     (old out : List SyntaxToken) : Type 0 where

@@ -10,7 +10,7 @@ use Rattle.edit_syntax.specs.Grammar.{Between, blank, break, remark, gap, Value,
 abbrev pub Relation : Type 1
 Relation = List ℕ → List ℕ → Type 0
 
--- kept where a byte is put before both
+-- preserved where a byte is put before both
 abbrev pub IsPreserved : Relation → Type 0
 IsPreserved R = (c : ℕ) (old new : List ℕ) → R old new → R (c ∷ old) (c ∷ new)
 

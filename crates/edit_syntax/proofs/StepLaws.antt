@@ -50,7 +50,7 @@ some_none o x e n = cc
 not_memory : (l : ℕ) → NotToml l ≡ Memory → ⊥
 not_memory l e = cc
 
--- a refusal of what could not but be read
+-- an error in reading a text that is sure to be read
 pub refused_memory : {A : Type 0} (o : Option A) (x : A) (e : ReadError) (r : Error) → o ≡ Some x
     → ((e ≡ Memory → ⊥) → o ≡ None) → (e ≡ Memory → IsMemory r) → IsMemory r
 refused_memory o x Memory r some other wants = wants refl

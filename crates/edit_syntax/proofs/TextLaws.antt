@@ -30,7 +30,7 @@ byte_order_mark_parts bytes = go (begins_with_byte_order_mark bytes) refl
         ap (λ (r : List ℕ). 0xBB ∷ r) (at_drop 2 0xBF bytes (omega arith) x.1))
     go false e = refl
 
--- lines that were read behind a mark or nothing
+-- lines that were read after a byte order mark or nothing
 pub lines_found : (n : ℕ) (bytes : List ℕ) (ls : Lines) → skip_byte_order_mark bytes ≡ lines ls → AreLines ls
     → lines_depth ls ≤ n → IsReadText n bytes (record { has_byte_order_mark = begins_with_byte_order_mark bytes; lines = ls })
 lines_found n bytes ls e valid shallow = record {
@@ -84,7 +84,7 @@ lines_other_first (more_lines l e ls) h = line_other_first l (line_end e (lines 
 no_byte_order_mark : (bytes : List ℕ) → eqb (first bytes) 0xEF ≡ false → begins_with_byte_order_mark bytes ≡ false
 no_byte_order_mark bytes e = rw e refl
 
--- the lines of any form of a text are those behind its mark
+-- the lines of any form of a text are those after its byte order mark
 byte_order_mark_again : (b : Bool) (ls : Lines) → AreLines ls → (begins_with_byte_order_mark (byte_order_mark b (lines ls)) ≡ b)
     × (skip_byte_order_mark (byte_order_mark b (lines ls)) ≡ lines ls)
 byte_order_mark_again true ls h = (refl, refl)

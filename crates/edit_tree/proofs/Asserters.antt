@@ -37,7 +37,7 @@ Paved made by outer p = (q : Place) → (q ≡ [] → ⊥) → is_within q p ≡
 abbrev pub InValue : List Assertion → Place → Type 0
 InValue made p = (b : Assertion) × Among b made × (is_value b.kind ≡ true) × (is_within b.place p ≡ true)
 
--- what an assertion tells of the place that its statement names
+-- what an assertion says of the place that its statement names
 pub record Made (made : List Assertion) (a : Assertion) : Type 0 where
   pub upto : is_within a.place a.by ≡ true
   pub owner : owns a.kind ≡ true → a.by ≡ a.place

@@ -14,7 +14,7 @@ use Rattle.edit_tree.specs.Walk.{child, with_definition, node_extended}
 use Rattle.edit_tree.specs.WalkState.{HasNodes}
 use Rattle.edit_syntax.proofs.ListElements.{OneMore, OneSet, changed, in_push, in_set, newest, other, stood}
 
--- ---- nodes and spots
+-- ---- nodes and model nodes
 
 pub holds_set : {text : List ℕ} (nodes : List Node) (models : List ModelNode) (t : ℕ) (new : Node) (s : ModelNode)
     → RepresentsNodes text nodes models → t < length nodes → RepresentsNode text new s
@@ -58,7 +58,7 @@ model_of_node (x ∷ xs) [] n node l e = absurd (omega arith)
 model_of_node (x ∷ xs) (s ∷ ss) zero node l e = (s, refl)
 model_of_node (x ∷ xs) (s ∷ ss) (suc n) node l e = model_of_node xs ss n node (omega arith) e
 
--- the node of a number that is read, and its spot
+-- the node at a number that is read, and its model node
 pub record HasModel (text : List ℕ) (nodes : List Node) (models : List ModelNode) (t : ℕ) (node : Node) : Type 0 where
   pub stands : slice_get nodes t ≡ Some node
   pub model : ModelNode

@@ -81,7 +81,7 @@ number_push es name other n none = go (number_in es other) refl (bytes_eq name o
     go None e false t = number_behind es ((name, n) ∷ []) other e ∙
         ap (λ (b : Bool). cond b (Some n) None) (turned t) ∙ sym e
 
--- the look-up of those behind the first few, where one more comes to it
+-- the lookup of the names after the first few, where one more is added
 pub others_push : (k : ℕ) (es : List (List ℕ × ℕ)) (name other : List ℕ) (n : ℕ) → k ≤ length es
     → number_in es name ≡ None
     → number_in (drop k (es ++ (name, n) ∷ [])) other ≡ cond (bytes_eq name other) (Some n)
@@ -100,7 +100,7 @@ others_same k es name other n lt =
     ap (λ (xs : List (List ℕ × ℕ)). number_in xs other) (drop_all k (es ++ (name, n) ∷ []) (omega arith) ∙
     sym (drop_all k es (omega arith)))
 
--- the look-up still numbers those behind the first few, where a name comes to the members
+-- the lookup still numbers the names after the first few, where a name is added to the members
 pub others_remain : (es more : List (List ℕ × ℕ)) (old others : Lookup) (name : List ℕ) (n : ℕ)
     → more ≡ es ++ (name, n) ∷ [] → ((other : List ℕ) → number_of old other ≡ number_in (drop 8 es) other)
     → number_in es name ≡ None

@@ -150,7 +150,7 @@ lines_heads t earlier prefix (more_lines (full_line a s b c) e ls) =
     ap (λ b. has_head earlier t || b) (statement_heads t x))
     ∙ or_assoc (has_head earlier t) (is_header_of t x) (list_any (is_header_of t) (stated_in us q ls))
 
--- one pair names the place and no header does, told by assertions
+-- one pair names the place and no header does, by the assertions
 abbrev pub is_alone : List Assertion → Place → Bool
 is_alone made t = (pairs_at made t == 1) && not (has_head made t)
 

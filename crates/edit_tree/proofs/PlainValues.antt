@@ -55,7 +55,7 @@ opened_below t ts base xs (next b x zs p s e st r) so any = opened_below t ts (x
         under (inr deep) (inl root) = absurd (true≢false (sym deep ∙ ap (λ q. is_below (t ∷ ts) q) root))
         under (inr deep) (inr o) = so (any_opened (t ∷ ts) b p deep o)
 
--- the value at the target, as a text tells it
+-- the value at the target, as it is written in a text
 abbrev pub HasLeaf : Place → Value → List Assertion → Type 0
 HasLeaf target b [] = ⊥
 HasLeaf target b (y ∷ ys) = ((y.place ≡ target) × (y.kind ≡ leaf b)) ⊎ HasLeaf target b ys

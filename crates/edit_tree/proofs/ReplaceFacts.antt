@@ -49,7 +49,7 @@ one : text (replaced ((place_tbc, codes "a\"b") ∷ []) form)
     ≡ codes "c ='1'\n[t]\nb = { c = \"a\\\"b\", d = '3' } # x"
 one = refl
 
--- two literals, told in any order
+-- two literals, given in any order
 two : text (replaced ((place_tbd, []) ∷ (place_c, codes "0.2") ∷ []) form)
     ≡ codes "c =\"0.2\"\n[t]\nb = { c = \"2\", d = \"\" } # x"
 two = refl
@@ -59,7 +59,7 @@ whole : text (replaced ((key (codes "t") ∷ key (codes "b") ∷ [], codes "4") 
     ≡ codes "c ='1'\n[t]\nb = \"4\" # x"
 whole = refl
 
--- an inline table and a string, told in any order
+-- an inline table and a string, given in any order
 mixed : text (replaced ((key (codes "t") ∷ key (codes "b") ∷ [], codes "4") ∷ (place_c, codes "0.2") ∷ [])
     form) ≡ codes "c =\"0.2\"\n[t]\nb = \"4\" # x"
 mixed = refl

@@ -35,7 +35,7 @@ value_has p (x ∷ made) e =
     of_kind array_kind e = absurd (true≢false (sym e))
     of_kind element_kind e = absurd (true≢false (sym e))
 
--- the value that is told at a place
+-- the value that is reported at a place
 pub value_written : (form : Text) (p : Place) → AreCompatible (assertions form) → is_value_at form p ≡ true
     → HasValue form p
 value_written form p clash e = let r = value_has p (assertions form) e in

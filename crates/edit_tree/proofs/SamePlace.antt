@@ -41,7 +41,7 @@ same_place_is (s ∷ ss) (t ∷ ts) e =
     let y : ss ≡ ts = same_place_is ss ts h.1 in
     cc
 
--- different places are told apart
+-- the test distinguishes different places
 pub other_place : (p q : Place) → (p ≡ q → ⊥) → same_place p q ≡ false
 other_place p q h = go (same_place p q) refl
   where

@@ -158,7 +158,7 @@ thin_literal edits q said xs ys v new high was (lose x us vs b k t) =
     thin_literal edits q said us vs v new high
     (sym (ap (λ c. cond c (Some x.kind) (kind_at us q)) (not_lost edits x.place q b high)) ∙ was) t
 
--- a view tells members and numbers of elements alone
+-- a view shows members and numbers of elements alone
 value_made : (q : Place) (xs ys : List Assertion) (v : Value) → members_of xs q ≡ members_of ys q
     → view_of_value xs q v ≡ view_of_value ys q v
 value_made q xs ys (basic ps) e = refl

@@ -37,7 +37,7 @@ pub grows_push : (models : List ModelNode) (last : ModelNode) → Grows models (
 grows_push models last n p h =
     (h.0, get_front models (last ∷ []) n (slice_get_within models n h.0 h.1) ∙ h.1, h.2)
 
--- ---- one spot told otherwise
+-- ---- one model node changed
 
 below_same : (s u : ModelNode) (x : Step) → s.members ≡ u.members → s.elements ≡ u.elements
     → below s x ≡ below u x
@@ -108,15 +108,15 @@ module _ (models : List ModelNode) (t : ℕ) (s s2 : ModelNode) (tree : IsTree m
         ];
   }
 
--- ---- one spot more, below another
+-- ---- one more model node, below another
 
--- where a spot of the longer list comes from
+-- where a model node of the longer list comes from
 data Whence (models : List ModelNode) (t : ℕ) (s2 last : ModelNode) (i : ℕ) (u : ModelNode) : Type 0 where
   parent : i ≡ t → u ≡ s2 → Whence models t s2 last i u
   otherwise : (i ≡ t → ⊥) → slice_get models i ≡ Some u → Whence models t s2 last i u
   added : i ≡ length models → u ≡ last → Whence models t s2 last i u
 
--- a spot with a step more
+-- a model node with one more step
 pub record Gains (s s2 : ModelNode) (x : Step) (number : ℕ) : Type 0 where
   pub place : s2.place ≡ s.place
   pub gained : below s2 x ≡ Some number
@@ -150,7 +150,7 @@ module _ (models : List ModelNode) (t : ℕ) (s s2 last : ModelNode) (x : Step) 
       go (stood lt g2) = inner (in_set models t s2 i u (slice_get_within models t s e) g2)
       go (newest here is) = added (here ∙ length-set models t s2) is
 
-  -- an earlier spot of the same place, or the new one
+  -- an earlier model node of the same place, or the new one
   was : (i : ℕ) (u : ModelNode) → Whence models t s2 last i u
       → ((w : ModelNode) × (slice_get models i ≡ Some w) × (u.place ≡ w.place)) ⊎ ((i ≡ length models) × (u ≡ last))
   was i u (parent here is) =
@@ -261,7 +261,7 @@ module _ (models : List ModelNode) (t : ℕ) (s s2 last : ModelNode) (x : Step) 
     up = λ j v b. ascend j v (whence j v b);
   }
 
-  -- a spot of the longer list is an earlier one, the changed one or the new one
+  -- a model node of the longer list is an earlier one, the changed one or the new one
   pub each_gain : (P : ModelNode → Type 0) → P s2 → P last
       → ((i : ℕ) (u : ModelNode) → (i ≡ t → ⊥) → slice_get models i ≡ Some u → P u) → (i : ℕ) (u : ModelNode)
       → slice_get (slice_set models t s2 ++ last ∷ []) i ≡ Some u → P u

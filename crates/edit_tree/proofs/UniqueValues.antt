@@ -177,7 +177,7 @@ pub values_unique : (form : Text) (w u : PlacedValue) → AreCompatible (asserti
 values_unique form w u clash m n e = same_one (values form) w u
     (subst Once (lines_leaves [] [] form.lines) (once (assertions form) clash)) m n e
 
--- ---- a value that is told is one of the values
+-- ---- a value that is reported is one of the values
 
 leaf_listed : (p : Place) (made : List Assertion)
     → list_any (λ a. same_place a.place p && is_leaf a.kind) made ≡ true → Among p (leaves made)
@@ -225,7 +225,7 @@ leaf_found p a (b ∷ made) (inr m) e = later (same_place b.place p && is_leaf b
     later true h = refl
     later false h = h
 
--- and each of the values is told
+-- and each of the values is reported
 pub listed_value : (form : Text) (w : PlacedValue) → Among w (values form) → is_value_at form w.place ≡ true
 listed_value form w m =
     let listed = subst (λ (l : List Place). Among w.place l) (sym (lines_leaves [] [] form.lines))

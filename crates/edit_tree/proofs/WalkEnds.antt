@@ -126,7 +126,7 @@ without_push base t =
     let n : length (base ++ t ∷ []) - 1 ≡ length base = omega arith in
     ap (λ (k : ℕ). take k (base ++ t ∷ [])) n ∙ take_length base (t ∷ [])
 
--- ---- one mark
+-- ---- one token
 
 pub step_is : (bytes : List ℕ) (m : SyntaxToken) (st : State) (k : TokenKind) → m.kind ≡ k
     → step bytes m st ≡ act k bytes m st
@@ -169,7 +169,7 @@ value_step_by bytes m st s k kind says does is_token names =
     ap (λ (o : Option (List ℕ)). o >>= λ n. value_added st (scalar_shape m.kind n) (Some (span_of_token m))) t.1 ∙
     ap (λ (x : Shape). value_added st x (Some (span_of_token m))) (sym (names t.0 t.2))
 
--- a mark of a string, a number, a date or a time
+-- a token of a string, a number, a date or a time
 abbrev pub IsScalarToken : TokenKind → Type 0
 IsScalarToken k =
     (k ≡ kinds.BasicString)
@@ -194,7 +194,7 @@ pub close_step : (bytes : List ℕ) (m : SyntaxToken) (st : State) → (m.kind �
 close_step bytes m st (inl e) = step_is bytes m st kinds.CloseArray e
 close_step bytes m st (inr e) = step_is bytes m st kinds.CloseTable e
 
--- ---- all marks
+-- ---- all tokens
 
 -- what is left to walk gives what the whole walk gives
 pub record Along (walk : Walk) (bytes : List ℕ) (all left : List SyntaxToken) : Type 0 where
@@ -221,7 +221,7 @@ pub along_end : (walk : Walk) (bytes : List ℕ) (all : List SyntaxToken) → Al
 along_end walk bytes all a = subst (KeepsState bytes walk.nodes.items)
     (sym (a.same ∙ walked_none bytes a.state)) a.walks.holds
 
--- a turn of the loop over all marks
+-- a turn of the loop over all tokens
 abbrev pub Turns : Walk → Walk → List ℕ → SyntaxToken → Bool → Type 0
 Turns walk new bytes m b = (st : State) → Walks bytes walk st → IsToken bytes m
     → HasNextState bytes new (step bytes m st) b

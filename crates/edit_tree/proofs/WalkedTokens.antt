@@ -101,7 +101,7 @@ walked_dotted bytes (d ∷ ds) rest ms st h u ends =
     ∙ walked_dotted bytes ds rest ms (with_key_part st (name d.part)) h.1 u
     (ends_part bytes d.part (dotted ds rest) here)
 
--- the marks of a key leave its names waiting
+-- the tokens of a key leave its names waiting
 pub walked_key : (bytes : List ℕ) (k : Key) (rest : List ℕ) (ms : List SyntaxToken) (st : State) → IsKey k
     → IsUtf8 bytes → Ends bytes (strings.key k rest) → state_after bytes (tokens_of_key k rest ++ ms) st
     ≡ state_after bytes ms (waits st (names k))

@@ -17,7 +17,7 @@ both-true true true h = (refl, refl)
 both-true true false h = cc h
 both-true false b h = cc h
 
--- two pairs of texts that the test tells apart differ in one
+-- two pairs of texts for which the test fails differ in one
 pub apart : (a b m n : List ℕ) → (bytes_eq a b && bytes_eq m n) ≡ false → (b ≢ a) ⊎ (n ≢ m)
 apart a b m n h = elim (cases_Bool (bytes_eq a b)) [
   | inl same ↦ inr (λ e. cc (sym (same-refl m) ∙ ap (bytes_eq m) (sym e) ∙ rest same))
@@ -27,7 +27,7 @@ apart a b m n h = elim (cases_Bool (bytes_eq a b)) [
     rest : bytes_eq a b ≡ true → bytes_eq m n ≡ false
     rest same = sym (ap (λ (x : Bool). x && bytes_eq m n) same) ∙ h
 
--- texts that differ are told apart
+-- the test distinguishes texts that differ
 pub apart-false : (xs ys : List ℕ) → xs ≢ ys → bytes_eq xs ys ≡ false
 apart-false xs ys h = elim (cases_Bool (bytes_eq xs ys)) [
   | inl same ↦ absurd (h (same-eq xs ys same))

@@ -12,7 +12,7 @@ cond-filter : {A B : Type 0} (f : A → B) (b : Bool) (x : A) (xs : List A) (ys 
 cond-filter f true x xs ys h = ap (λ l. f x ∷ l) h
 cond-filter f false x xs ys h = h
 
--- what a function gives of the kept is what is kept of what it gives
+-- a filter before a map gives what the filter after the map gives
 map-filter : {A B : Type 0} (f : A → B) (p : B → Bool) (xs : List A)
     → map f (filter (λ x. p (f x)) xs) ≡ filter p (map f xs)
 map-filter f p [] = refl

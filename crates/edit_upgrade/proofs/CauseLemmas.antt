@@ -27,7 +27,7 @@ use Rattle.edit_upgrade.proofs.EndLemmas.{each-some, get-at, get-taken}
 use Rattle.edit_upgrade.proofs.FurtherInputs.{IsInputAt}
 use Rattle.edit_upgrade.proofs.WalkLemmas.{passed-stays, stops-from}
 
--- why an entry stops a plan of an input, told from where the plan of all began
+-- why an entry stops a plan of an input, from the state where the plan of all began
 bad-from : (Needed : List ℕ → List ℕ → Type 0) (own : List Config) (bytes : List ℕ)
     (was now next : CacheView) (e : Error) → LeavesCache Needed was now → StopsManifest own bytes now next e
     → StopsManifest own bytes was next e

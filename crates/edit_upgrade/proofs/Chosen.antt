@@ -5,7 +5,7 @@ use Rattle.std.proofs.lemmas.List.{map-append}
 use Rattle.std.proofs.lemmas.List.Elements.{filter-append}
 use Rattle.edit_upgrade.proofs.Steps.{names-more}
 
--- what is kept of one item more
+-- the selection of a list with one more item
 chosen-more : {A B : Type 0} (f : A → B) (p : B → Bool) (xs : List A) (i : ℕ) (x : A) (b : Bool)
     → i < length xs → x ≡ get_or xs i x → p (f x) ≡ b
     → filter p (map f (take (i + 1) xs)) ≡ filter p (map f (take i xs)) ++ cond b (f x ∷ []) []
@@ -14,7 +14,7 @@ chosen-more {A} {B} f p xs i x b h is t =
     ap (filter p) (names-more f xs i x h is) ∙ filter-append p before (f x ∷ [])
     ∙ ap (λ (z : Bool). filter p before ++ cond z (f x ∷ []) []) t
 
--- the item is kept
+-- the item is selected
 pub chosen-some : {A B D : Type 0} (f : A → B) (g : D → A) (p : B → Bool) (xs : List A) (i : ℕ) (x : A)
     (old new : List D) (d : D)
     → i < length xs → x ≡ get_or xs i x → p (f x) ≡ true
@@ -27,7 +27,7 @@ chosen-some {A} {B} {D} f g p xs i x old new d h is t e n one =
     ∙ ap (λ (y : A). filter p (map f (take i xs)) ++ f y ∷ []) one
     ∙ sym (chosen-more f p xs i x true h is t)
 
--- the item is not kept
+-- the item is not selected
 pub chosen-none : {A B D : Type 0} (f : A → B) (g : D → A) (p : B → Bool) (xs : List A) (i : ℕ) (x : A)
     (old new : List D)
     → i < length xs → x ≡ get_or xs i x → p (f x) ≡ false
@@ -37,7 +37,7 @@ chosen-none {A} {B} {D} f g p xs i x old new h is t e n =
     ap (λ (ys : List D). map f (map g ys)) n ∙ e ∙ sym (append-nil (filter p (map f (take i xs))))
     ∙ sym (chosen-more f p xs i x false h is t)
 
--- what is kept of one item more of a list that is read in two steps
+-- the selection of a list with one more item, where the list is read in two steps
 within-more : {A B C : Type 0} (f : B → C) (g : A → B) (p : C → Bool) (xs : List A) (i : ℕ) (x : A) (b : Bool)
     → i < length xs → x ≡ get_or xs i x → p (f (g x)) ≡ b
     → filter p (map f (map g (take (i + 1) xs)))
@@ -49,7 +49,7 @@ within-more {A} {B} {C} f g p xs i x b h is t =
     ∙ filter-append p before (f (g x) ∷ [])
     ∙ ap (λ (z : Bool). filter p before ++ cond z (f (g x) ∷ []) []) t
 
--- the item is kept, and what is made of it is added to what there was
+-- the item is selected, and what is made of it is added to the earlier results
 pub added-some : {A B C D E : Type 0} (f : B → C) (g : A → B) (p : C → Bool) (h : C → E) (s : D → E)
     (xs : List A) (i : ℕ) (x : A) (first : List E) (old new : List D) (d : D)
     → i < length xs → x ≡ get_or xs i x → p (f (g x)) ≡ true
@@ -64,7 +64,7 @@ added-some {A} {B} {C} {D} {E} f g p h s xs i x first old new d low is t e n one
     ∙ ap (λ (ys : List E). first ++ ys)
     (sym (ap (map h) (within-more f g p xs i x true low is t) ∙ map-append h before (f (g x) ∷ [])))
 
--- the item is not kept, and nothing is added
+-- the item is not selected, and nothing is added
 pub added-none : {A B C D E : Type 0} (f : B → C) (g : A → B) (p : C → Bool) (h : C → E) (s : D → E)
     (xs : List A) (i : ℕ) (x : A) (first : List E) (old new : List D)
     → i < length xs → x ≡ get_or xs i x → p (f (g x)) ≡ false

@@ -24,7 +24,7 @@ use Rattle.edit_upgrade.proofs.TakenVersions.{far-some, far_text, near-some, nea
 
 -- ---- pinned entries
 
--- pinning looks at operators alone
+-- pinning depends on operators alone
 pin-map : (cs : List Held)
     → list_any (λ (c : Held). is_pin c.0) cs ≡ list_any is_pin (map (λ (c : Held). c.0) cs)
 pin-map [] = refl
@@ -55,7 +55,7 @@ case_of x r m old near far =
       latest = far;
     }
 
--- where words give no requirement, the decision for an entry is one without
+-- where package arguments give no requirement, the decision for an entry is one without
 pub case-plain : (o : Options) (e : RowEntry) (old : List ℕ) (near far : Option Parts)
     → requirement_for o e.name ≡ None
     → case_for o e old near far ≡ case_of (is_excluded o e.name) (is_some e.rename) o.never_lower old near far

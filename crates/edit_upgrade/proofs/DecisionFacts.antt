@@ -47,7 +47,7 @@ pub pinned_stays : (o : Options) → o.pinned ≡ false → o.incompatible ≡ t
 unfolding semver_on_literals digits
 pinned_stays o p i c = rw (p, i, c) refl
 
--- an incompatible version is left where it is not asked for
+-- an incompatible version is left where it is not requested
 pub incompatible_left : (o : Options) → o.pinned ≡ false → o.incompatible ≡ false → o.compatible ≡ true
     → decision o (entry (codes "0.2") (Some (version 0 2 5)) (Some (version 0 3 0)))
     ≡ record { new = codes "0.2"; change = None; reason = Some reason.Incompatible }
@@ -118,11 +118,11 @@ pub endless_again : (o : Options) → o.pinned ≡ true → o.incompatible ≡ t
 unfolding semver_on_literals digits
 endless_again o p i c = rw (i, c) refl
 
--- an entry for which a word gives this requirement
+-- an entry for which a package argument gives this requirement
 abbrev given : List ℕ → Case → Case
 given req e = record e { selected = Some req }
 
--- the requirement that a word gives is taken
+-- the requirement that a package argument gives is taken
 pub explicit_taken : (o : Options)
     → decision o (given (codes "1.1") (entry (codes "1.0") (Some (version 1 2 3)) (Some (version 1 2 3))))
     ≡ record { new = codes "1.1"; change = Some change.Explicit; reason = None }

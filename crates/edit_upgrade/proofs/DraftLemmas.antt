@@ -29,7 +29,7 @@ use Rattle.edit_upgrade.proofs.EndLemmas.{all-below, filter-front, filter-last, 
 use Rattle.edit_upgrade.proofs.InputRows.{decided-inputs, one-path-order, warned-inputs, written-paths}
 use Rattle.edit_upgrade.proofs.WalkLemmas.{passed-stays, rows-stay}
 
--- what is planned of an input stays, where more answers are kept
+-- the plan of an input stays, where more answers are cached
 planned-stays : (i : ℕ) (o : Options) (x : Input) (configs : List Config) (now next : CachedAnswers)
     (ls : List Line) (os : List Output) (ts : List WarningView)
     → Stays now next → IsPlanned i o x configs now ls os ts → IsPlanned i o x configs next ls os ts

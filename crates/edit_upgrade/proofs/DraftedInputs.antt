@@ -32,7 +32,7 @@ use Rattle.edit_upgrade.proofs.HeadlineRows.{rows-floor, rows-latest, rows-narro
 use Rattle.edit_upgrade.proofs.PlannedAgain.{need-same, pending_defined}
 use Rattle.edit_upgrade.proofs.WalkLemmas.{rows-from}
 
--- a plan that has all that was planned of the inputs, and the looks that they need in their order, from a
+-- a plan that has all that was planned of the inputs, and the lookups that they need in their order, from a
 -- cache to another
 pub record IsFinished (o : Options) (inputs : List Input) (configs : List (Vec Config)) (old new : CacheView)
     (plan : UpgradePlan) : Type 0 where
@@ -128,7 +128,7 @@ module _ (o : Options) (inputs : List Input) (configs : List (Vec Config)) (old 
       each (setting_of i o x.0 own.0.items plan.looks.items) x.0.bytes.items (rows_of i plan) refl
       (rows-at i x.0 own.0 x.1 own.1))))
 
-  -- the plan has each promise, where its lists and its missing names are told
+  -- the plan has each promise, where its lists and its missing names are given
   pub plan-of : length configs ≡ length inputs → HasRowLists plan → ListsMissing o inputs plan
       → IsPlan o inputs configs old new plan
   plan-of long lists missing = record {

@@ -35,7 +35,7 @@ pub get-last : {A : Type 0} (xs : List A) (x : A) → slice_get (xs ++ x ∷ [])
 get-last [] x = refl
 get-last (z ∷ xs) x = get-last xs x
 
--- the element at a place, which a test tells of
+-- the element at an index below the length
 pub get-at : {A : Type 0} (xs : List A) (i : ℕ) (x : A) → i < length xs → x ≡ get_or xs i x
     → slice_get xs i ≡ Some x
 get-at xs i x low e = slice_get-get_or xs i x low ∙ ap Some (sym e)
@@ -68,14 +68,14 @@ filter-same {A} p q (x ∷ xs) h =
     by true e f rest = let g : p x ≡ true = e ∙ f in rw (g, f) (ap (λ (l : List A). x ∷ l) rest)
     by false e f rest = let g : p x ≡ false = e ∙ f in rw (g, f) rest
 
--- none of what was added is kept
+-- none of what was added passes the filter
 pub filter-front : {A : Type 0} (p : A → Bool) (xs ys : List A) → All (λ x. p x ≡ false) ys
     → filter p (xs ++ ys) ≡ filter p xs
 filter-front {A} p xs ys h =
     filter-append p xs ys ∙ ap (λ (l : List A). filter p xs ++ l) (filter-none p ys h)
     ∙ append-nil (filter p xs)
 
--- all that was added is kept, and nothing else
+-- all that was added passes the filter, and nothing else
 pub filter-last : {A : Type 0} (p : A → Bool) (xs ys : List A) → All (λ x. p x ≡ false) xs
     → All (λ x. p x ≡ true) ys → filter p (xs ++ ys) ≡ ys
 filter-last {A} p xs ys none whole =

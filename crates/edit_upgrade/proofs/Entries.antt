@@ -25,7 +25,7 @@ option-cond : {A B : Type 0} (f : A → B) (b : Bool) (x : A) (o : Option A)
 option-cond f true x o = refl
 option-cond f false x o = refl
 
--- what a look-up of a name finds
+-- what a lookup of a name finds
 pub lookup-seen : (name : List ℕ) (es : List (String Global × Option Pin))
     → lookup (bytes_eq name) (map pin_entry_view es)
     ≡ option_map (option_map pin_view) (lookup (is_at (λ k. slice_cmp nat_cmp name (string_bytes k))) es)
@@ -62,7 +62,7 @@ insert-seen (e ∷ es) name pin =
     ∙ seen-by (string_cmp name e.0) _ _ _ _ _ _ refl refl
     (ap (λ l. pin_entry_view e ∷ l) (insert-seen es name pin))
 
--- a word more
+-- one more package argument
 pub arg-more : (args : List (List ℕ)) (arg : List ℕ)
     → pins_of (args ++ arg ∷ []) ≡ with_package_arg (pins_of args) arg
 arg-more args arg = fold-append with_package_arg [] args (arg ∷ [])

@@ -30,7 +30,7 @@ pub others-of : (at name : List ℕ) (old new : Held)
     → (a n : List ℕ) → (bytes_eq at a && bytes_eq name n) ≡ false → seen_in new a n ≡ seen_in old a n
 others-of at name old new h a n e = ap (option_map answer_of) (h a n (apart at a name n e))
 
--- an answer that was kept stays
+-- a cached answer stays
 pub stays-of : (at name : List ℕ) (old new : Held)
     → ((a n : List ℕ) → (a ≢ at) ⊎ (n ≢ name) → new a n ≡ old a n)
     → (IsSome (old at name) → (a n : List ℕ) → new a n ≡ old a n) → (a n : List ℕ)
@@ -44,7 +44,7 @@ stays-of at name old new h first a n some = elim (cases_Bool (bytes_eq at a && b
   | inr other ↦ others-of at name old new h a n other
 ]
 
--- ---- what a look adds
+-- ---- what a lookup adds
 
 seen-none : (o : Option (Option IndexKrate)) → option_map answer_of o ≡ None → o ≡ None
 seen-none None h = refl
@@ -65,7 +65,7 @@ given-one : (gives : Outcomes) (address : url.Parts) (name : List ℕ) (o : Opti
 given-one gives address name None h = tt
 given-one gives address name (Some k) h = ((refl, refl), record { registry = address; at = refl; given = h })
 
--- the answer at the pair that was looked up
+-- the answer at the pair of the lookup
 added-here : {T : Type 0} (r : Result T Error) (gives : Outcomes) (address : url.Parts) (name : List ℕ)
     (old new : Option (Option IndexKrate)) → old ≡ None
     → OnOk r (IfSome new (λ k. gives address name (Ok (answer_of k)))) → OnErr r (new ≡ old)
@@ -80,7 +80,7 @@ on-err-at : {T : Type 0} (r : Result T Error) (old new : Held) (a n : List ℕ)
 on-err-at (Ok x) old new a n h = tt
 on-err-at (Err e) old new a n h = h a n
 
--- what a look adds, also one that is refused
+-- what a lookup adds, also one that fails
 pub adds-of : {T : Type 0} (r : Result T Error) (gives : Outcomes) (address : url.Parts) (name : List ℕ)
     (old new : Held)
     → ((a n : List ℕ) → (a ≢ serialize address) ⊎ (n ≢ name) → new a n ≡ old a n)

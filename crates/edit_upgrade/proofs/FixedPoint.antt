@@ -96,7 +96,7 @@ case-whole o x r m xs old near far all h ic il =
     (subst (λ (y : Option Parts). IsCompatible old xs y) n.1 ic) in
     whole-of old old n.0 t (upgrade_of old n.0) valid h refl n.2)
 
--- the same of an entry, where words give it no requirement
+-- the same of an entry, where package arguments give it no requirement
 decided-whole : (o : Options) (xs : List Parts) (e : RowEntry) (old : List ℕ) (near far : Option Parts)
     → requirement_for o e.name ≡ None → All IsValid xs → cut old ≡ old
     → IsCompatible old xs near → IsLatest old xs far
@@ -124,7 +124,7 @@ old-stays old (to_latest text) h = same-stays old text _ h
 old-stays old (to_compatible text) h = same-stays old text _ h
 old-stays old up_to_date h = refl
 
--- so the row tells the old requirement
+-- so the row shows the old requirement
 line-stays : (i : ℕ) (o : Options) (xs : List Parts) (e : RowEntry) (old : List ℕ) (line : Line)
     → IsDecided i o xs e old line → line.change ≡ None → line.new ≡ Some old
 line-stays i o xs e old line d h =

@@ -33,7 +33,7 @@ use Rattle.edit_upgrade.proofs.NotLess.{not-less, not-less-itself}
 
 -- ---- versions
 
--- each version that an answer tells of is one that `semver` reads
+-- each version that an answer lists is one that `semver` reads
 pub versions-valid : (rust : Option Numbers) (o : Option Answer) → All IsValid (versions_in rust o)
 versions-valid rust None = All-nil IsValid
 versions-valid rust (Some None) = All-nil IsValid
@@ -53,7 +53,7 @@ offered-valid s e xs (elsewhere other none) =
 admits-plain : (text : List ℕ) (v : Parts) → Admits text v → Admits text (without_build v)
 admits-plain text v a = (a.0, a.1, admits-without_build a.0 v ∙ a.2)
 
--- the text of a version tells it, but for its build metadata
+-- the text of a version determines it, except its build metadata
 plain-version : (v : Parts) → IsValid v → IsTextOfVersion (Some (plain_text v)) (without_build v)
 plain-version v valid = plain_text-read v valid
 
@@ -96,7 +96,7 @@ line-reaches i o xs e old line all d =
     } in
     subst Reaches (sym d.is) there
 
--- the latest version that a row tells, where there are both
+-- the latest version that a row shows, where there are both
 latest-text : (u v : Parts) → IsValid u → IsValid v → is_le (full_order u v) ≡ true
     → (w : Parts) × IsTextOfVersion (option_map plain_text (or_else (newer (Some v) (Some u)) (Some u))) w
     × IsTrue (is_ge (precedence w (without_build u)))
@@ -105,7 +105,7 @@ latest-text u v a b le = elim (cases_Bool (pointwise nat_eq (plain_text v) (plai
   | inr other ↦ (without_build v, rw other (plain-version v b), not-less u v le)
 ]
 
--- the two versions that a decided row tells
+-- the two versions that a decided row shows
 latest-of : (xs : List Parts) (old : List ℕ) (near far : Option Parts) → All IsValid xs
     → IsCompatible old xs near → IsLatest old xs far
     → IsSome (option_map plain_text near)
@@ -145,7 +145,7 @@ pub line-latest : (i : ℕ) (o : Options) (xs : List Parts) (e : RowEntry) (old 
 line-latest i o xs e old line all d =
     subst LatestIsNotLess (sym d.is) (latest-of xs old d.near d.far all d.compatible d.latest)
 
--- a row of dashes narrows nothing, reaches nothing and tells no version
+-- a row of dashes narrows nothing, reaches nothing and shows no version
 dashes-narrow : (i : ℕ) (o : Options) (e : RowEntry) → Narrows (dashes i o e)
 dashes-narrow i o e h = cc h
 

@@ -109,7 +109,7 @@ warned-more o i es ts new e result a w n = record {
 pub warned-none : (o : Options) (i : ℕ) (ts : List WarningView) → ts ≡ [] → AreWarnings o i [] ts
 warned-none o i ts h = record { each = []; on = tt; all = h }
 
--- a text among texts, as a set of them tells it
+-- whether a text is among texts, by a set of them
 pub text-any : {Y : Type 0} (name : List ℕ) (ks : List (String Y))
     → list_any (bytes_eq name) (map string_bytes ks) ≡ list_any
     (is_at (λ (k : String Y). slice_cmp nat_cmp name (string_bytes k))) ks

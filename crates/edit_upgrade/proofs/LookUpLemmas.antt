@@ -1,4 +1,4 @@
--- A walk over names that looks each of them up, after one more step.
+-- A walk over names with a lookup of each, after one more step.
 use Rattle.std.proofs.Common.{◌≡◌, ◌∷◌, ◌++◌, [], List, ℕ, Option, Some, None, Bool, true, false, refl, ap, ◌∙◌, sym, subst, inl, inr, ◌⊎◌, ◌≤◌, arith}
 use Rattle.std.specs.Prelude.{◌&&◌, if◌then◌else◌, Contains, IfSome, IsSome, Ok, Err, find, is_some, string_bytes}
 use Rattle.std.specs.Option.{option_or}
@@ -137,7 +137,7 @@ some-over None lookup false = refl
 some-over (Some x) lookup true = refl
 some-over (Some x) lookup false = refl
 
--- which pairs are found with one look more
+-- which pairs are found with one more lookup
 found-by : (address name : List ℕ) (made : List Look) (lookup : Look) → serialize lookup.registry ≡ address
     → string_bytes lookup.name ≡ name → (a n : List ℕ)
     → is_some (lookup_at (made ++ lookup ∷ []) a n) ≡ (if bytes_eq address a && bytes_eq name n then true else
@@ -157,7 +157,7 @@ so-far-start Needed first old made pairs none nothing h =
     subst (λ (l : List Look). IsWalkState Needed first old old l pairs) (sym none)
     (record { lookups = lookups-start Needed first old nothing; set = h })
 
--- a pair that the test tells is the pair
+-- a pair for which the test succeeds is the pair
 pair-is : (address name a n : List ℕ) (pairs : PairSet) → pairs address name ≡ true
     → (bytes_eq address a && bytes_eq name n) ≡ true → pairs a n ≡ true
 pair-is address name a n pairs h e =
@@ -223,7 +223,7 @@ so-far-idle P Q first old now next made more pairs then_pairs wider same a b c s
       set = s.set;
     })))
 
--- ---- the first look that is refused
+-- ---- the first lookup that fails
 
 find-some : {A : Type 0} (p : A → Bool) (xs : List A) → IsSome (find p xs)
     → (x : A) × (find p xs ≡ Some x) × (p x ≡ true) × Contains xs x

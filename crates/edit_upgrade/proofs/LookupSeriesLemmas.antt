@@ -13,9 +13,9 @@ use Rattle.edit_upgrade.specs.Lookups.{AreApart, AreLookups, CachedAnswers, is_l
 use Rattle.edit_upgrade.specs.declared.upgrade.Look.{Look}
 use Rattle.edit_upgrade.proofs.Bytes.{same-refl, same-swap}
 
--- ---- a look more
+-- ---- one more lookup
 
--- a look that a pair finds, or the new one if it is at that pair
+-- the earlier lookup of a pair, or the new one if it has that pair
 pub find-one : (a n : List ℕ) (lookup : Look) (b : Bool) → is_lookup_at a n lookup ≡ b
     → find (is_lookup_at a n) (lookup ∷ []) ≡ (if b then Some lookup else None)
 find-one a n lookup b e = rw e refl
@@ -24,7 +24,7 @@ pub lookup_at-more : (made : List Look) (lookup : Look) (a n : List ℕ)
     → lookup_at (made ++ lookup ∷ []) a n ≡ option_or (lookup_at made a n) (find (is_lookup_at a n) (lookup ∷ []))
 lookup_at-more made lookup a n = find-append (is_lookup_at a n) made (lookup ∷ [])
 
--- whether a look is at a pair, by its own
+-- whether a lookup has a pair, by its own address and name
 pub at-pair : (address name : List ℕ) (lookup : Look) → serialize lookup.registry ≡ address
     → string_bytes lookup.name ≡ name
     → (a n : List ℕ) → is_lookup_at a n lookup ≡ (bytes_eq address a && bytes_eq name n)
@@ -49,7 +49,7 @@ found-stays made lookup a n h =
     subst (λ (o : Option Look). IsSome o) (sym (lookup_at-more made lookup a n))
     (or-some (lookup_at made a n) (find (is_lookup_at a n) (lookup ∷ [])) h)
 
--- the pair of the new look is found
+-- the pair of the new lookup is found
 found-new : (made : List Look) (lookup : Look) (a n : List ℕ) → lookup_at made a n ≡ None
     → is_lookup_at a n lookup ≡ true
     → lookup_at (made ++ lookup ∷ []) a n ≡ Some lookup
@@ -57,7 +57,7 @@ found-new made lookup a n none here =
     lookup_at-more made lookup a n ∙ or-last (lookup_at made a n) (find (is_lookup_at a n) (lookup ∷ [])) none
     ∙ find-one a n lookup true here
 
--- a pair that none was at, nor the new look, is not found
+-- a pair of no earlier lookup and not of the new one is not found
 unfound : (made : List Look) (lookup : Look) (a n : List ℕ) → lookup_at made a n ≡ None
     → is_lookup_at a n lookup ≡ false
     → lookup_at (made ++ lookup ∷ []) a n ≡ None
@@ -80,7 +80,7 @@ unfound-cases made lookup a n h =
     not-here (inl here) e = absurd (some-not-none lookup (sym (find-one a n lookup true here) ∙ e))
     not-here (inr other) e = other
 
--- where a pair is not found, no look is at it
+-- where a pair is not found, no lookup has it
 none-at : (a n : List ℕ) (made : List Look) → lookup_at made a n ≡ None
     → All (λ x. is_lookup_at a n x ≡ false) made
 none-at a n [] h = All-nil (λ x. is_lookup_at a n x ≡ false)
@@ -89,7 +89,7 @@ none-at a n (x ∷ xs) h = elim (cases_Bool (is_lookup_at a n x)) [
   | inr other ↦ All-cons (λ x. is_lookup_at a n x ≡ false) x xs other (none-at a n xs (rw other at h))
 ]
 
--- ---- the looks that were made
+-- ---- the lookups that were made
 
 abbrev registry_of : Look → List ℕ
 registry_of lookup = serialize lookup.registry
@@ -97,7 +97,7 @@ registry_of lookup = serialize lookup.registry
 abbrev name_in : Look → List ℕ
 name_in lookup = string_bytes lookup.name
 
--- where nothing is needed, no look was made
+-- where nothing is needed, no lookup was made
 pub lookups-start : (Needed : List ℕ → List ℕ → Type 0) (gives : Outcomes) (old : CachedAnswers)
     → ((a n : List ℕ) → Needed a n → ⊥) → AreLookups Needed gives old old []
 lookups-start Needed gives old nothing = record {
@@ -110,7 +110,7 @@ lookups-start Needed gives old nothing = record {
   others = λ a n h. refl;
 }
 
--- where all that is needed more was looked up, the looks stay
+-- where all that is newly needed was looked up before, the lookups stay
 pub lookups-again : (P Q : List ℕ → List ℕ → Type 0) (gives : Outcomes) (old now : CachedAnswers) (made : List Look)
     → ((a n : List ℕ) → P a n → Q a n)
     → ((a n : List ℕ) → Q a n → IsSome (lookup_at made a n)) → AreLookups P gives old now made
@@ -126,7 +126,7 @@ lookups-again P Q gives old now made wider found m = record {
   others = m.others;
 }
 
--- no earlier look is at the pair of the new one
+-- no earlier lookup has the pair of the new one
 abbrev Far : List ℕ → List ℕ → Look → Type 0
 Far address name x = (bytes_eq address (registry_of x) && bytes_eq name (name_in x)) ≡ false
 
@@ -148,7 +148,7 @@ apart-more address name lookup p q (x ∷ xs) far h = (
   apart-more address name lookup p q xs (All-tail (Far address name) x xs far) h.1,
 )
 
--- one look more, at a pair that is needed
+-- one more lookup, of a pair that is needed
 pub lookups-more : (P Q : List ℕ → List ℕ → Type 0) (gives : Outcomes) (old now next : CachedAnswers)
     (made : List Look) (lookup : Look) (address name : List ℕ)
     → ((a n : List ℕ) → P a n → Q a n) → ((a n : List ℕ) → Q a n → P a n ⊎ ((a ≡ address) × (n ≡ name)))

@@ -66,7 +66,7 @@ known-next o inputs k x old new low is h a =
     subst (λ (xs : List Input). AreKnown o xs new) (sym (taken-more inputs k x low is))
     (known-more o (take k inputs) x old new h a)
 
--- what is not known of the words' names is missing
+-- the names of package arguments that are not known are missing
 pub missing-are : (o : Options) (inputs : List Input) (known : List ℕ → Bool) (names missing : List (List ℕ))
     → AreKnown o inputs known → names ≡ each_once (map spec_name (package_args_of o))
     → missing ≡ filter (λ name. not (known name)) names → AreMissing o inputs missing

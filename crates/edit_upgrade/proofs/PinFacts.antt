@@ -50,7 +50,7 @@ cond-swap true true x y z apart = absurd (apart refl refl)
 cond-swap true false x y z apart = refl
 cond-swap false b x y z apart = refl
 
--- what a look-up finds after an entry more: before an entry, in its place, or behind it
+-- what a lookup finds after one more entry: before an entry, in its place, or after it
 inserted-by : (name k : List ℕ) (pin : Option Pin) (e : List ℕ × Option Pin)
     (es new : List (List ℕ × Option Pin)) (o : Ordering) → slice_cmp nat_cmp k e.0 ≡ o
     → lookup (bytes_eq name) new ≡ cond (bytes_eq name k) (Some pin) (lookup (bytes_eq name) es)
@@ -81,7 +81,7 @@ joined-cond : (b : Bool) (pin : Option Pin) (o : Option (Option Pin))
 joined-cond true pin o = refl
 joined-cond false pin o = refl
 
--- the last word of a name stands
+-- the last package argument of a name applies
 last-stands : (args : List (List ℕ)) (arg name : List ℕ)
     → pin_at (pins_of (args ++ arg ∷ [])) name
     ≡ cond (bytes_eq name (spec_name arg)) (arg_pin arg) (pin_at (pins_of args) name)

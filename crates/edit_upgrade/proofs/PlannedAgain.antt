@@ -133,9 +133,9 @@ pending_defined s path bytes lines outputs h g select =
     pending_defined-on s (bytes_after bytes outputs) h.form lines h.decided
     (read-back path bytes h.form lines outputs h.manifest g) select
 
--- ---- the looks that are needed
+-- ---- the lookups that are needed
 
--- an entry after its row was written needs the same look
+-- an entry after its row was written needs the same lookup
 renewed-needs : (configs : List Config) (e : RowEntry) (l : Line) (address name : List ℕ)
     → IsNeededFor configs e address name → IsNeededFor configs (renew e l) address name
 renewed-needs configs e l address name h = record {
@@ -162,7 +162,7 @@ needs-renewed configs e l address name h = record {
   at = h.at;
 }
 
--- what one of the entries needs, as recursion tells it
+-- what one of the entries needs, by recursion
 pub among-first : (configs : List Config) (e : RowEntry) (es : List RowEntry) (address name : List ℕ)
     → IsNeededFor configs e address name
     → IsNeededIn configs (e ∷ es) address name
@@ -210,7 +210,7 @@ renewed-needed configs (e ∷ es) (l ∷ ls) address name h =
       | inr more ↦ among-rest configs e es address name (renewed-needed configs es ls address name more)
     ]
 
--- the looks that are needed after a plan
+-- the lookups that are needed after a plan
 pub need-same : (s : Setting) (path bytes : List ℕ) (lines : List Line) (outputs : List Output)
     → HasRows s bytes lines → HasOutputs path bytes lines outputs
     → NeedSame s.configs bytes (bytes_after bytes outputs)

@@ -18,7 +18,7 @@ use Rattle.edit_cache.specs.declared.ranking.Ranked.{Ranked}
 use Rattle.edit_upgrade.specs.Lookups.{Answer, cached_by, versions_in}
 use Rattle.edit_upgrade.specs.Rankings.{IsRankingOf}
 
--- the ranking that is kept beside an answer is that of its entries
+-- the ranking beside a cached answer is that of its entries
 pub ranking-cached : (answer : Option (Option IndexKrate)) (ranked : Option Ranked) → IsRankedAt answer ranked
     → IsRankingOf (option_map answer_of answer) ranked
 ranking-cached None None h = h
@@ -28,7 +28,7 @@ ranking-cached (Some None) (Some ranked) h = h
 ranking-cached (Some (Some krate)) None h = h
 ranking-cached (Some (Some krate)) (Some ranked) h = h
 
--- where there is no ranking, no version is told
+-- where there is no ranking, no version is given
 pub none-ranked : (keep : Parts → Bool) (rust : Option Numbers) (answer : Option Answer)
     → IsRankingOf answer None
     → IsGreatest keep full_order (versions_in rust answer) None

@@ -67,7 +67,7 @@ stands t e s k h =
           (v.text, ap t (literal ∙ ap (λ (x : Entry). x.literal) k.is) ∙ v.there, v.is);
     }
 
--- ---- what is kept of a list
+-- ---- the selected items of a list
 
 cons-all : {B : Type 0} (P : B → Type 0) (o : Option B) (bs : List B) → ((b : B) → o ≡ Some b → P b)
     → AllByRecursion P bs → AllByRecursion P (cons_option o bs)

@@ -17,7 +17,7 @@ use Rattle.edit_upgrade.specs.Upgraded.{IsRow, basis_of}
 use Rattle.edit_upgrade.specs.declared.decision.options.Options.{Options}
 use Rattle.edit_upgrade.proofs.WrittenEntries.{renew, renewed}
 
--- a list after another has a greatest version or none that is kept
+-- a list after another has a greatest version that satisfies the condition, or none
 some-after : (keep : Parts → Bool) (back front : List Parts) (o : Option Parts)
     → IsGreatest keep full_order front o
     → (best : Option Parts) × IsGreatest keep full_order (front ++ back) best
@@ -31,7 +31,7 @@ some-after keep (x ∷ back) front o h =
           (append_assoc front (x ∷ []) back) more.1,
     )
 
--- a list has a greatest version or none that is kept
+-- a list has a greatest version that satisfies the condition, or none
 some-greatest : (keep : Parts → Bool) (xs : List Parts)
     → (best : Option Parts) × IsGreatest keep full_order xs best
 some-greatest keep xs = some-after keep xs [] None (All-nil (λ x. keep x ≡ false))

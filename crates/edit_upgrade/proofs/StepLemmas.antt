@@ -59,7 +59,7 @@ source-cases (at_registry named) = inl (named, refl)
 source-cases at_repository = inr refl
 source-cases at_folder = inr refl
 
--- the one look that an entry of a registry needs
+-- the one lookup that an entry of a registry needs
 for-pair : (configs : List Config) (e : RowEntry) (named : Option (List ℕ)) (address : url.Parts)
     (a n : List ℕ) → e.source ≡ at_registry named
     → HasAddress configs named address → IsNeededFor configs e a n → (a ≡ serialize address) × (n ≡ e.name)
@@ -76,7 +76,7 @@ for-pair configs e named address a n q has h =
           h.needs.crate_name,
     )
 
--- ---- the looks that were made
+-- ---- the lookups that were made
 
 -- an entry further
 entry-so-far : (P Q : List ℕ → List ℕ → Type 0) (configs : List Config) (e : RowEntry) (first last : Outcomes)
@@ -144,7 +144,7 @@ steps-so-far P configs first last old same _ _ _ _ _ _ _
     (λ a n h. inr (in-last configs front e a n h)) same
     (steps-so-far P configs first last old same front now mid made between pairs then_pairs steps s) step
 
--- ---- the answers that are kept
+-- ---- the cached answers
 
 some-cached : (o : Option Answer) (a : Answer) → o ≡ Some a → IsSome o
 some-cached o a h = subst (λ (x : Option Answer). IsSome x) (sym h) refl
@@ -157,7 +157,7 @@ step-stays address name gives now next made more pairs then_pairs step = elim st
   | inr one ↦ one.3.stays
 ]
 
--- the answer of a step is kept
+-- the answer of a step is cached
 step-here : (address name : List ℕ) (gives : Outcomes) (now next : CachedAnswers) (made more : List Look)
     (pairs then_pairs : PairSet) → AreAllCached pairs now
     → IsStep address name gives now next made more pairs then_pairs → IsSome (next address name)
@@ -186,7 +186,7 @@ step-cached address name gives now next made more pairs then_pairs cached step a
         subst (λ (o : Option Answer). IsSome o) (sym (step-stays address name gives now next made more
         pairs then_pairs step a n some)) some
 
--- after the step of an entry the answer that it needs is kept, and so are those of the set
+-- after the step of an entry the answer that it needs is cached, and so are those of the set
 pub entry-cached : (configs : List Config) (e : RowEntry) (gives : Outcomes) (now next : CachedAnswers)
     (made more : List Look) (pairs then_pairs : PairSet) → AreAllCached pairs now
     → IsEntryStep configs e gives now next made more pairs then_pairs → AreAllCached then_pairs next
@@ -217,7 +217,7 @@ entry-cached configs e gives now next made more pairs then_pairs cached step = b
           },
         )
 
--- the same step, told with the outcomes that the index had
+-- the same step, with the outcomes of the index
 pub entry-step-with : (configs : List Config) (e : RowEntry) (first last : Outcomes) (now next : CachedAnswers)
     (made more : List Look) (pairs then_pairs : PairSet)
     → SameOutcomes first last → IsEntryStep configs e last now next made more pairs then_pairs

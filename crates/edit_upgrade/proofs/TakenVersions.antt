@@ -57,7 +57,7 @@ pub near-some : (o : Options) (old t : List ℕ) (near : Option Parts)
 near-some o old t None h = cc (some_if-some o.compatible None t h)
 near-some o old t (Some u) h = (u, refl, some_if-some o.compatible (near_text old (Some u)) t h)
 
--- a change tells another text
+-- a change writes a different text
 other-text : (old text : List ℕ) (kind got : Change) → unless_old old text kind ≡ Some got
     → (kind ≡ got) × (pointwise nat_eq text old ≡ false)
 other-text old text kind got h = elim (cases_Bool (pointwise nat_eq text old)) [

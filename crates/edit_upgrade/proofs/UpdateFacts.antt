@@ -37,7 +37,7 @@ usual name = record {
   locked = false;
 }
 
--- the words before those that say what is updated, and after them
+-- the arguments before those that select what is updated, and after them
 abbrev call_of : List (List ℕ) → Call
 call_of args = codes "cargo" ∷ codes "update" ∷ codes "--manifest-path" ∷ codes "/w/Cargo.toml" ∷ args
 
@@ -61,7 +61,7 @@ dry_run = refl
 locked : update_calls (record (usual (codes "serde")) { locked = true }) (workspace_of (serde ∷ [])) ≡ []
 locked = refl
 
--- a word with a version, and versions that are not raised to compatible ones
+-- a package argument with a version, and versions that are not raised to compatible ones
 abbrev exact : ParsedOptions
 exact = record (usual (codes "docopt")) { args = codes "docopt@99999.0.0" ∷ []; compatible = false }
 
@@ -95,7 +95,7 @@ repositories : update_calls
 unfolding semver_on_literals digits
 repositories = refl
 
--- the last word of a name stands, and names stand in byte order
+-- the last package argument of a name applies, and names stand in byte order
 last_arg : pins_of (codes "b@1.0.0" ∷ codes "a" ∷ codes "b" ∷ [])
     ≡ (codes "a", None) ∷ (codes "b", None) ∷ []
 unfolding semver_on_literals digits

@@ -30,7 +30,7 @@ use Rattle.edit_upgrade.proofs.LookUpLemmas.{answered, leaves-wider, refused-wit
 abbrev basis_over : ℕ → Options → List Config → (List ℕ → List ℕ → List Parts) → Basis
 basis_over i o configs versions = record { input = i; options = o; configs = configs; versions = versions }
 
--- the versions told for what an entry needs are the same
+-- the versions for what an entry needs are the same
 abbrev Agree : List Config → (List ℕ → List ℕ → List Parts) → (List ℕ → List ℕ → List Parts) → RowEntry → Type 0
 Agree configs v w e = (address : url.Parts) → Needs configs e address e.name → v (serialize address) e.name
     ≡ w (serialize address) e.name
@@ -86,7 +86,7 @@ passed-stays configs now next es stays h =
       has = p.has;
     }) es h
 
--- rows over the answers that are kept stay, where more are kept
+-- rows over the cached answers stay, where more are cached
 pub rows-stay : (i : ℕ) (o : Options) (rust : Option Numbers) (configs : List Config) (now next : CachedAnswers)
     (es : List RowEntry) (ls : List Line)
     → Stays now next → All (IsPassed configs now) es → AreDecided (cached_basis i o rust configs now) es ls
@@ -108,7 +108,7 @@ rows-further i o rust configs now next es ls e l passed stays d row =
     all_zipped_more (IsRowBy (cached_basis i o rust configs next)) es ls e l
     (rows-stay i o rust configs now next es ls stays passed d) row
 
--- rows over the answers that are kept are rows over the looks
+-- rows over the cached answers are rows over the lookups
 pub rows-from : (Needed : List ℕ → List ℕ → Type 0) (i : ℕ) (o : Options) (rust : Option Numbers)
     (configs : List Config) (first : Outcomes)
     (old now : CachedAnswers) (made : List Look) (es : List RowEntry) (ls : List Line)
@@ -131,7 +131,7 @@ none-before : (o p : Option Answer) → (IsSome o → p ≡ o) → p ≡ None �
 none-before None p stays none = refl
 none-before (Some x) p stays none = cc (sym none ∙ stays refl)
 
--- why an entry stops a walk, told from where the walk began
+-- why an entry stops a walk, from the state where the walk began
 pub stops-from : (configs : List Config) (first last : Outcomes) (old now : CachedAnswers) (a b c : ℕ) (e : RowEntry)
     (error : Error) → SameOutcomes first last → Stays old now → a ≤ b
     → StopsAt configs last now b c e error → StopsAt configs first old a c e error

@@ -37,7 +37,7 @@ read-same text u v s (Err e) = refl
 read-same text u v s (Ok []) = refl
 read-same text u v s (Ok (c ∷ cs)) = all-same text u v s (c ∷ cs) _
 
--- raising does not look at build metadata
+-- raising does not depend on build metadata
 pub raise-same : (text : List ℕ) (u v : Parts) → SameVersion u v → upgrade_of text u ≡ upgrade_of text v
 raise-same text u v s = read-same text u v s (req_of text)
 

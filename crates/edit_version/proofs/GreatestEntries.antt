@@ -64,7 +64,7 @@ one-valid rust e es None h rest = rw h rest
 one-valid rust e es (Some v) h rest =
     rw h (All-cons IsValid v (admissible_in rust es) (admissible-valid rust e v h) rest)
 
--- so are all that are told of
+-- so are all listed versions
 pub all-valid : (rust : Option Numbers) (entries : List IndexEntry) → All IsValid (admissible_in rust entries)
 all-valid rust [] = All-nil IsValid
 all-valid rust (e ∷ es) = one-valid rust e es (admissible rust e) refl (all-valid rust es)
@@ -93,13 +93,13 @@ qualifies-some test (Some v) h = elim (cases_Bool (test v)) [
   | inr fails ↦ cc (rw fails at h)
 ]
 
--- the version of a kept entry
+-- the version of an entry that satisfies the condition
 pub qualifies-has : (rust : Option Numbers) (test : Parts → Bool) (e : IndexEntry)
     → is_qualifying rust test e ≡ true
     → (v : Parts) × (admissible rust e ≡ Some v) × (test v ≡ true)
 qualifies-has rust test e h = qualifies-some test (admissible rust e) h
 
--- where no entry is kept, none of the versions passes the test
+-- where no entry satisfies the condition, none of the versions passes the test
 pub none-versions : (rust : Option Numbers) (test : Parts → Bool) (entries : List IndexEntry)
     → IsGreatest (is_qualifying rust test) entry_order entries None
     → IsGreatest test full_order (admissible_in rust entries) None

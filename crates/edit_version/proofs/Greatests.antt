@@ -11,12 +11,12 @@ use Rattle.std.proofs.lemmas.List.Elements.{All-append, All-cons, All-drop, All-
 use Rattle.edit_version.specs.Greatest.{IsGreatest, IsGreatestItem, advance}
 
 module _ {X : Type 0} (keep : X → Bool) (cmp : X → X → Ordering) (o : IsTotalOrder cmp) where
-  -- none was kept, and this one is not
+  -- no earlier item satisfies the condition, and this one does not
   pub none-more : (xs : List X) (x : X) → IsGreatest keep cmp xs None → keep x ≡ false
       → IsGreatest keep cmp (xs ++ x ∷ []) None
   none-more xs x h k = All-push (λ y. keep y ≡ false) xs x h k
 
-  -- none was kept, and this one is
+  -- no earlier item satisfies the condition, and this one does
   pub first-qualifies : (xs : List X) (x : X) → IsGreatest keep cmp xs None → keep x ≡ true
       → IsGreatest keep cmp (xs ++ x ∷ []) (Some x)
   first-qualifies xs x h k = record {
@@ -29,7 +29,7 @@ module _ {X : Type 0} (keep : X → Bool) (cmp : X → X → Ordering) (o : IsTo
     after = All-nil (λ y. keep y ≡ true → cmp y x ≡ Less);
   }
 
-  -- this one is not kept, or is below
+  -- this item does not satisfy the condition, or is below
   pub stays : (xs : List X) (x e : X) → IsGreatest keep cmp xs (Some e) → (keep x ≡ true → cmp x e ≡ Less)
       → IsGreatest keep cmp (xs ++ x ∷ []) (Some e)
   stays xs x e h k = record {
@@ -73,7 +73,7 @@ module _ {X : Type 0} (keep : X → Bool) (cmp : X → X → Ordering) (o : IsTo
   le-trans-of Equal a b c e p g = ap is_le (o.congr a b c e) ∙ g
   le-trans-of Greater a b c e p g = cc p
 
-  -- this one is kept, and not below
+  -- this item satisfies the condition, and is not below
   pub rises : (xs : List X) (x e : X) → IsGreatest keep cmp xs (Some e) → keep x ≡ true → (cmp x e ≡ Less → ⊥)
       → IsGreatest keep cmp (xs ++ x ∷ []) (Some x)
   rises xs x e h k n =
@@ -138,7 +138,7 @@ pub advanced-all : {X Y : Type 0} (f : Y → X) (keep : X → Bool) (cmp : X →
 advanced-all {X} {Y} f keep cmp ys i best le h =
     subst (λ (l : List Y). IsGreatest keep cmp (map f l) best) (take_all i ys le) h
 
--- every kept entry is at most the greatest
+-- every entry that satisfies the condition is at most the greatest
 all-le : {X : Type 0} (keep : X → Bool) (cmp : X → X → Ordering) → IsTotalOrder cmp → (xs : List X) (e : X)
     → IsGreatestItem keep cmp xs e
     → All (λ x. keep x ≡ true → is_le (cmp x e) ≡ true) xs
@@ -167,7 +167,7 @@ wider keep wide cmp o more xs e f h g =
     (sym (drop_at h.front (e ∷ h.rest) (length h.front) refl)) part in
     All-head (λ x. wide x ≡ true → is_le (cmp x f) ≡ true) e h.rest here (more e h.qualifies)
 
--- where an entry is kept, there is a greatest of more
+-- where an entry satisfies the condition, a wider condition has a greatest entry
 pub wider-found : {X : Type 0} (keep wide : X → Bool) (cmp : X → X → Ordering)
     → ((x : X) → keep x ≡ true → wide x ≡ true)
     → (xs : List X) (e : X) → IsGreatestItem keep cmp xs e → IsGreatest wide cmp xs None → ⊥

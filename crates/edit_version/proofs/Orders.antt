@@ -86,7 +86,7 @@ greatest-same keep xs (Some a) (Some b) h g =
     ap Some (le-same a b (wider keep keep full_order full_total (λ x k. k) xs a b h g)
     (wider keep keep full_order full_total (λ x k. k) xs b a g h))
 
--- the greatest of more, where it is kept, is the greatest of fewer
+-- the greatest under a wider condition, where it satisfies the narrower one, is the greatest under that
 pub fewer : (keep wide : Parts → Bool) → ((x : Parts) → keep x ≡ true → wide x ≡ true)
     → (xs : List Parts) (e : Parts)
     → IsGreatestItem wide full_order xs e → keep e ≡ true → IsGreatestItem keep full_order xs e

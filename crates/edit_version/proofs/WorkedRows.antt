@@ -19,12 +19,12 @@ two_rc = (2, 0, 0, codes "rc.1", [])
 
 -- ---- raising
 
--- an inequality is refused, and told as it was read
+-- an inequality is an error, which has it as it was read
 pub above_refused : upgrade_of (codes ">=1.2") two ≡ Unsupported (op.GreaterEq, 1, Some 2, None, [])
 unfolding semver_on_literals digits
 above_refused = refl
 
--- the first inequality is told, also behind another comparator
+-- the error has the first inequality, also after another comparator
 pub below_refused : upgrade_of (codes "1, <2, >0") two ≡ Unsupported (op.Less, 2, None, None, [])
 unfolding semver_on_literals digits
 below_refused = refl
@@ -39,7 +39,7 @@ pub pre_release_dropped : upgrade_of (codes "1.0.0-beta.2") two ≡ Text (codes 
 unfolding semver_on_literals digits
 pre_release_dropped = refl
 
--- a caret that leads the text is kept
+-- a caret at the start of the text is preserved
 pub caret_remains : upgrade_of (codes "^1.2") two ≡ Text (codes "^2.0")
 unfolding semver_on_literals digits
 caret_remains = refl
@@ -90,13 +90,13 @@ pub alpha_after_beta : step (Pre phase.Alpha) beta ≡ Refused (Behind phase.Alp
 unfolding digits
 alpha_after_beta = refl
 
--- a word without a number counts as its number 0
+-- a name without a number counts as its number 0
 pub alpha_without_number : step (Pre phase.Alpha) (1, 2, 3, codes "alpha", [])
     ≡ To (1, 2, 3, codes "alpha.1", [])
 unfolding digits
 alpha_without_number = refl
 
--- no word and number
+-- more than a name and a number
 pub two_dots_refused : step (Pre phase.Alpha) (1, 2, 3, codes "alpha.1.2", []) ≡ Refused Scheme
 unfolding digits
 two_dots_refused = refl

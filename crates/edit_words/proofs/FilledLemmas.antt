@@ -9,12 +9,12 @@ use Rattle.std.specs.Str.{bytes_eq}
 use Rattle.clap.specs.Words.{Text}
 use Rattle.edit_words.specs.Filled.{inserted_values, insert_defaults, is_one, missing_value}
 
--- what words become behind a word `--`, where there was one, or else
+-- what arguments become after an argument `--`, where there was one, or else
 abbrev pub rest_of : Bool → List Text → List Text
 rest_of true args = args
 rest_of false args = insert_defaults args
 
--- one more word
+-- one more argument
 pub turn : (ended : Bool) (arg : Text) (rest : List Text)
     → rest_of ended (arg ∷ rest)
     ≡ (arg ∷ inserted_values (ended || bytes_eq arg (codes "--")) arg (slice_get rest 0))
@@ -37,7 +37,7 @@ next_of [] (suc n) = refl
 next_of (arg ∷ args) zero = refl
 next_of (arg ∷ args) (suc n) = next_of args n
 
--- one more word of a slice
+-- one more argument of a slice
 pub pushed : (ended now_ended : Bool) (args : List (Bor Text)) (n : ℕ) (arg other : Bor Text)
     (old new all : List Text) (next : Option Text)
     → n < length args → arg ≡ slice_index_or args n other
@@ -67,7 +67,7 @@ unfolding insert_defaults
 rest_of_none true = refl
 rest_of_none false = refl
 
--- no more words
+-- no more arguments
 pub all_pushed : (ended : Bool) (args : List (Bor Text)) (n : ℕ) (old all : List Text) → length args ≤ n
     → old ++ rest_of ended (map (λ (w : Bor Text). w.now) (drop n args)) ≡ all → old ≡ all
 all_pushed ended args n old all past before =
@@ -87,7 +87,7 @@ got (Some x) args n (lt, at) =
     ∙ ap (λ (w : Bor Text). Some w) (sym (at x.now)) in
     sym (ap (option_map (λ (w : Bor Text). w.now)) one)
 
--- nothing is missing where the next word is a value
+-- nothing is missing where the next argument is a value
 pub none_missing : (values : List Text) (next : Option Text)
     → option_map_or (is_one values) next false ≡ true → None ≡ missing_value values next
 none_missing values next is = rw is refl

@@ -1,10 +1,10 @@
 //! What a user would write over toml_edit for the edits that `edit_calls` makes, to measure against in one
-//! run: it takes the same words, makes the same edit and prints the same text. (It reads no text again and
+//! run: it takes the same arguments, makes the same edit and prints the same text. (It reads no text again and
 //! compares no trees.) usage: edits_peer FILE insert|remove|set_value|set_literal|replace_entry STEP.. = ..
 use std::iter::Peekable;
 use toml_edit::{value, Array, Document, InlineTable, Item, TableLike, Value};
 
-type Words = Peekable<std::vec::IntoIter<String>>;
+type Args = Peekable<std::vec::IntoIter<String>>;
 
 /// A step of a place.
 enum Step {
@@ -12,19 +12,19 @@ enum Step {
     Index(usize),
 }
 
-/// The next word, empty behind the last one.
-fn take(words: &mut Words) -> String {
-    words.next().unwrap_or_default()
+/// The next argument, empty after the last one.
+fn take(args: &mut Args) -> String {
+    args.next().unwrap_or_default()
 }
 
-/// The steps up to a word `=`.
-fn take_place(words: &mut Words) -> Vec<Step> {
+/// The steps up to an argument `=`.
+fn take_place(args: &mut Args) -> Vec<Step> {
     let mut place = Vec::new();
     loop {
-        let word = take(words);
-        if let Some(name) = word.strip_prefix('.') {
+        let arg = take(args);
+        if let Some(name) = arg.strip_prefix('.') {
             place.push(Step::Key(name.to_string()));
-        } else if let Some(index) = word.strip_prefix('#') {
+        } else if let Some(index) = arg.strip_prefix('#') {
             place.push(Step::Index(index.parse().unwrap_or(usize::MAX)));
         } else {
             return place;
@@ -33,34 +33,34 @@ fn take_place(words: &mut Words) -> Vec<Step> {
 }
 
 /// A value of a kind.
-fn take_value_of(words: &mut Words, kind: &str) -> Value {
+fn take_value_of(args: &mut Args, kind: &str) -> Value {
     match kind {
-        "truth" => Value::from(take(words) == "true"),
+        "truth" => Value::from(take(args) == "true"),
         "list" => {
-            let count = take(words).parse().unwrap_or(0);
-            Value::from((0..count).map(|_| take(words)).collect::<Array>())
+            let count = take(args).parse().unwrap_or(0);
+            Value::from((0..count).map(|_| take(args)).collect::<Array>())
         }
-        _ => Value::from(take(words)),
+        _ => Value::from(take(args)),
     }
 }
 
 /// A value, behind its kind.
-fn take_value(words: &mut Words) -> Value {
-    let kind = take(words);
-    take_value_of(words, &kind)
+fn take_value(args: &mut Args) -> Value {
+    let kind = take(args);
+    take_value_of(args, &kind)
 }
 
 /// An entry: a table of members, or a value.
-fn take_item(words: &mut Words) -> Item {
-    let kind = take(words);
+fn take_item(args: &mut Args) -> Item {
+    let kind = take(args);
     if kind != "table" {
-        return value(take_value_of(words, &kind));
+        return value(take_value_of(args, &kind));
     }
     let mut table = InlineTable::new();
-    let count = take(words).parse().unwrap_or(0);
+    let count = take(args).parse().unwrap_or(0);
     for _ in 0..count {
-        let name = take(words);
-        table.insert(&name, take_value(words));
+        let name = take(args);
+        table.insert(&name, take_value(args));
     }
     value(table)
 }
@@ -90,24 +90,24 @@ fn in_place_of(old: &mut Item, new: Value) -> Option<()> {
     Some(())
 }
 
-/// Makes the edit that the words name.
-fn edit(root: &mut Item, words: &mut Words) -> Option<()> {
-    let call = take(words);
-    let place = take_place(words);
+/// Makes the edit that the arguments name.
+fn edit(root: &mut Item, args: &mut Args) -> Option<()> {
+    let call = take(args);
+    let place = take_place(args);
     match call.as_str() {
         "insert" => {
-            let name = take(words);
-            let new = take_value(words);
+            let name = take(args);
+            let new = take_value(args);
             at(root, &place)?.as_table_like_mut()?.insert(&name, value(new));
         }
         "remove" => {
             let (table, name) = holder(root, &place)?;
             table.remove(name)?;
         }
-        "set_value" => in_place_of(at(root, &place)?, take_value(words))?,
-        "set_literal" => in_place_of(at(root, &place)?, Value::from(take(words)))?,
+        "set_value" => in_place_of(at(root, &place)?, take_value(args))?,
+        "set_literal" => in_place_of(at(root, &place)?, Value::from(take(args)))?,
         "replace_entry" => {
-            let item = take_item(words);
+            let item = take_item(args);
             in_place_of(at(root, &place)?, item.into_value().ok()?)?;
         }
         _ => return None,
@@ -116,10 +116,10 @@ fn edit(root: &mut Item, words: &mut Words) -> Option<()> {
 }
 
 fn main() {
-    let mut words = std::env::args().skip(1).collect::<Vec<_>>().into_iter().peekable();
-    let text = std::fs::read_to_string(take(&mut words)).unwrap();
+    let mut args = std::env::args().skip(1).collect::<Vec<_>>().into_iter().peekable();
+    let text = std::fs::read_to_string(take(&mut args)).unwrap();
     let mut document = text.parse::<Document>().unwrap();
-    let outcome = match edit(document.as_item_mut(), &mut words) {
+    let outcome = match edit(document.as_item_mut(), &mut args) {
         Some(()) => "done",
         None => "no such place",
     };

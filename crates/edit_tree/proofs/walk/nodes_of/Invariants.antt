@@ -4,7 +4,7 @@ use Rattle.edit_tree.specs.WalkState.{IsToken}
 use Rattle.edit_tree.proofs.WalkEnds.{Along}
 use Rattle.edit_tree.proofs.walk.nodes_of.Given as goal
 
--- the walk is in the state behind the marks so far
+-- the walk is in the state after the tokens so far
 abbrev pub invariant-tokens : goal.invariant-tokens
 invariant-tokens l = AllByRecursion (IsToken l.text) l.tokens
     → Along l.walk l.text l.tokens (drop l.token-index l.tokens)

@@ -3,7 +3,7 @@ use Rattle.edit_syntax.specs.Numbers.{are_digits, are_more_digits}
 use Rattle.edit_syntax.specs.AppendedTokens.{class_test}
 use Rattle.edit_syntax.proofs.read.numbers.are_digits.Given as goal
 
--- what is left tells what all tells
+-- the remaining bytes decide the result for all
 abbrev pub invariant-loop-b : goal.invariant-loop-b
 invariant-loop-b l = are_digits (class_test l.class) l.s
     ≡ cond l.wanted (are_digits (class_test l.class) (drop l.b-index l.s))
