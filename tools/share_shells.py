@@ -152,7 +152,7 @@ def fish_of_program(name, top, commands):
 
 
 def fish_of_cargo(pages):
-    """Completions of `cargo NAME`; cargo's own file hands nothing on, so these stand where each shell reads them."""
+    """Completions of `cargo NAME`; cargo's own file passes nothing on, so these go where each shell reads them."""
     lines = [MADE]
     for command, page in pages.items():
         lines += fish_lines("cargo", page, " -n '__fish_seen_subcommand_from %s'" % command)
