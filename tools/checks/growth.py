@@ -63,7 +63,7 @@ def edit(what, before, views, after, *args):
 def plan(what, answer, files, *args, held=False, **others):
     """A call of a plan or a reader, with a cached answer or without one."""
     lacks = [b"refused 46 " + LACK + b"\n"] + [CACHED % 0 + answer + b"done\n"] * held
-    left = {"left": files, "left_by_refusal": [files], **others}
+    left = {"left": files, "left_early": [files], **others}
     return Call(what, args, files, answer + b"done\n", lacks, **left)
 
 
@@ -100,8 +100,8 @@ def edits():
 def workspace(members):
     """The files of a workspace of these members."""
     packages = [{"name": name, "id": name, "version": "0.1.0", "manifest_path": f"@HERE@/{name}/Cargo.toml"} for name in OLD]
-    reported = {"workspace_root": "@HERE@", "workspace_members": list(OLD), "packages": packages}
-    return {"metadata.json": json.dumps(reported).encode(), "Cargo.toml": b'[workspace]\nmembers = ["a", "b", "c"]\n',
+    metadata = {"workspace_root": "@HERE@", "workspace_members": list(OLD), "packages": packages}
+    return {"metadata.json": json.dumps(metadata).encode(), "Cargo.toml": b'[workspace]\nmembers = ["a", "b", "c"]\n',
             **{f"{name}/Cargo.toml": text for name, text in members.items()}}
 
 
@@ -166,7 +166,8 @@ def refused(pool, program, call, library):
             printed[answer[1]] += 1
             if not seen:
                 if lacks or not reported:
-                    sys.exit(f"{call.what}: " + ("a run with no request refused answered 46" if lacks else "no run reported a refused request"))
+                    fault = "a run with no request refused answered 46" if lacks else "no run reported a refused request"
+                    sys.exit(f"{call.what}: {fault}")
                 return number - 1, reported, printed
 
 
