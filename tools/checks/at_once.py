@@ -1,8 +1,8 @@
 #!/usr/bin/env python3
-"""at_once.py PROGRAM: runs at once over one workspace, an editor that appends beside a run, and an attacker who swaps a run's
-temporary file. Each of two runs ends with status 0, the later one reports that it waits, and all manifests are from the one
-that wrote last; what an editor appends stays, whether the run ends well or with an error that names the file; no file outside of
-the workspace changes its owner or its text."""
+"""at_once.py PROGRAM: runs at once over one workspace, an editor that appends beside a run, and an attacker who swaps a
+run's temporary file. Each of two runs ends with status 0, the later one reports that it waits, and all manifests are from
+the one that wrote last; what an editor appends stays, whether the run ends well or with an error that names the file; no
+file outside of the workspace changes its owner or its text."""
 
 import collections
 import os

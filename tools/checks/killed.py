@@ -1,8 +1,8 @@
 #!/usr/bin/env python3
-"""killed.py PROGRAM [KILLS]: the program is killed 100 times (or KILLS times) at varying moments while it writes the 30 manifests
-of a workspace, and what it leaves stays. Each manifest is always the old or the new text whole, those that are new are the first ones in their
-order, and most kills leave all old or all new; files of killed runs do not pile up. An undisturbed run
-then ends as ever, and never writes in place."""
+"""killed.py PROGRAM [KILLS]: the program is killed 100 times (or KILLS times) at varying moments while it writes the 30
+manifests of a workspace, and what it leaves stays. Each manifest is always the old or the new text whole, those that are
+new are the first ones in their order, and most kills leave all old or all new; files of killed runs do not pile up. An
+undisturbed run then ends as ever, and never writes in place."""
 
 import json
 import os

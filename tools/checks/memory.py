@@ -3,10 +3,10 @@
 examples/first and the workspace of examples/workspace by `upgrade`, that of examples/versions by `set-version`. LIBRARY
 refuses the request whose number REFUSE_AT is.
 
-Request 1 is refused, then 2, until a run ends with no request refused. A run ends with status 0, and prints and leaves what an
-undisturbed one does; or it ends with status 1, prints a prefix of that and then that memory ran out, and leaves the first
-manifests in their order raised, the others as they were. No further file is left. What the manifests become was worked out by
-hand (examples/NAME/*.diff)."""
+Request 1 is refused, then 2, until a run ends with no request refused. A run ends with status 0, and prints and leaves
+what an undisturbed one does; or it ends with status 1, prints a prefix of that and then that memory ran out, and leaves
+the first manifests in their order raised, the others as they were. No further file is left. What the manifests become was
+worked out by hand (examples/NAME/*.diff)."""
 
 import itertools
 import os
@@ -92,7 +92,7 @@ class Place:
 
 
 def lacked(place, number):
-    """What is wrong with a run in which a request is refused, whether the run reported it, and whether a request was refused."""
+    """What is wrong with a run in which a request is refused, whether the run reported it, and whether one was refused."""
     place.reset()
     answer, seen = place.run("REFUSE_AT", number)
     (status, out, err), raised = answer, place.raised()
