@@ -96,7 +96,7 @@ fi
 "$program" --version > /dev/null 2>&1 \
     || fail "$program does not run here: it needs x86-64 Linux with glibc 2.34 or later"
 
-# A command of another origin is not replaced unasked.
+# A command of another origin is replaced only with --force.
 for it in cargo-edit cargo-upgrade cargo-set-version; do
     if [ -e "$prefix/bin/$it" ] && [ -z "$force" ] && ! grep -q -x -F "bin/$it" "$prefix/$list" 2> /dev/null \
         && ! head -c 400 "$prefix/bin/$it" | grep -q 'cargo-edit'; then

@@ -107,7 +107,7 @@ def generate(seed=SEED):
 
 
 def join(texts, size):
-    """Manifests one behind the other, each below a table of its own, until they have so many bytes."""
+    """Manifests one after the other, each below a table of its own, until they have so many bytes."""
     parts, length = [], 0
     while length < size:
         parts.append(move_below(f"m{len(parts)}", texts[len(parts) % len(texts)]))

@@ -1,4 +1,4 @@
-"""Runs of programs side by side, and what they take. `tests/linear/measure.c` starts each, since a child of a
+"""Runs of programs side by side, and their cost. `tests/linear/measure.c` starts each, since a child of a
 process as large as Python has that one's peak memory until it is larger itself."""
 
 import os
@@ -28,12 +28,12 @@ int main(void) {
 
 
 class Failed(Exception):
-    """A run that ended otherwise than it has to."""
+    """A run that did not end as expected."""
 
 
 @dataclass
 class Cost:
-    """What a run takes: seconds of a processor, kilobytes at the peak, seconds by the clock."""
+    """The cost of a run: seconds of a processor, kilobytes at the peak, seconds by the clock."""
     seconds: float
     kilobytes: int
     wall: float
@@ -103,7 +103,7 @@ class Room:
         return path
 
     def run(self, name, job):
-        """Runs a program once; what it takes."""
+        """Runs a program once; returns the cost."""
         out, errors_path = (os.path.join(self.folder, name) for name in ("measured", "errors"))
         args = [self.starter, out, self.programs[name], *job.arguments[name]]
         with open(errors_path, "w", encoding="utf-8") as errors:

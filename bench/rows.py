@@ -1,4 +1,4 @@
-"""The rows of the table: what each measures, at which size, and what is wanted of it."""
+"""The rows of the table: what each measures, at which size, and its limit."""
 
 from dataclasses import dataclass
 from typing import Callable

@@ -34,7 +34,7 @@ ENVIRONMENT = (
 
 
 def of_command(name, page):
-    """The help of the command of cargo, of that of the subcommand."""
+    """The help of the command of cargo, made from that of the subcommand."""
     sections = []
     for heading, entries, text in page.sections:
         public = [it for it in entries if not PLUMBING & set(it.flags)]
@@ -67,5 +67,5 @@ def text(page):
 
 
 def padded(entry):
-    """What is written of an entry, where the help has it: a long option alone stands below the others' long ones."""
+    """The left column of an entry: a long option without a short one is aligned with the other long ones."""
     return ("      " if entry.written.startswith("--") else "  ") + entry.written

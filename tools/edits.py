@@ -1,4 +1,4 @@
-"""Mutants as edits: what each changes, what a check says of functions, and whether that refuses a mutant."""
+"""Mutants as edits: what each changes, the results of a check by function, and whether they reject the mutant."""
 import os
 import re
 
@@ -60,7 +60,7 @@ class Edit:
         return made
 
     def beside(self, group, texts):
-        """The texts with this edit made too, or nothing where it cannot stand beside those of the group."""
+        """The texts with this edit made too, or nothing where it cannot be combined with those of the group."""
         for other in group:
             if self.members & (other.members | other.apart) or other.members & self.apart:
                 return None
@@ -163,7 +163,7 @@ class Report:
         return errors[0][:200]
 
     def whole_wait(self, name):
-        """The functions that are not proved and that this one calls, those behind them too."""
+        """The functions that are not proved and that this one calls, directly or indirectly."""
         found, left = set(), {name}
         while left:
             more = self.waits.get(left.pop(), set()) - found

@@ -66,7 +66,7 @@ class Help:
 
 
 def section(heading, lines):
-    """The entries of a section; a line that stands deeper goes on with the text of the entry above."""
+    """The entries of a section; a line with a deeper indent continues the text of the entry above."""
     entries = []
     for line in lines:
         found = ENTRY.match(line)
@@ -88,7 +88,7 @@ def read(text):
             place = usage
             line = line[len("Usage: "):]
         elif line[:1].strip() and place is not about:
-            # a heading, or a text of its own behind the sections
+            # a heading, or a text of its own after the sections
             heading = line[:-1] if line.endswith(":") else ""
             place = []
             sections.append((heading, place))

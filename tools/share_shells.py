@@ -50,8 +50,8 @@ complete -F {function} {name}
 """
 
 
-# Cargo's own completion passes a command's arguments to this function from bash-completion 2.12 on. Before, it knows options by
-# variables of its own alone, and completes others from a variable of that form.
+# Cargo's own completion passes a command's arguments to this function from bash-completion 2.12 on. Before, it knows options
+# by variables of its own alone, and completes others from a variable of that form.
 BASH_OLD = """if [ "${{BASH_COMPLETION_VERSINFO[0]:-2}}" -eq 2 ] && [ "${{BASH_COMPLETION_VERSINFO[1]:-12}}" -lt 12 ]; then
     # cargo's own completion reads the options of a command here
     # shellcheck disable=SC2034
@@ -152,7 +152,7 @@ def fish_of_program(name, top, commands):
 
 
 def fish_of_cargo(pages):
-    """Completions of `cargo NAME`; cargo's own file hands nothing on, so these stand where each shell reads them."""
+    """Completions of `cargo NAME`; cargo's own file passes nothing on, so these go where each shell reads them."""
     lines = [MADE]
     for command, page in pages.items():
         lines += fish_lines("cargo", page, " -n '__fish_seen_subcommand_from %s'" % command)

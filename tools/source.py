@@ -75,7 +75,7 @@ class Source:
         return found
 
     def opened(self, outer, head, start, at):
-        """What a brace opens behind this head."""
+        """The block that a brace opens after this head."""
         function = re.search(r"\bfn\s+(\w+)", head)
         inner = re.search(r"\bmod\s+(\w+)\s*\Z", head)
         trait = re.search(r"\btrait\s+(\w+)", head)

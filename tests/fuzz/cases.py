@@ -17,7 +17,7 @@ SECONDS, TIMEOUT = 3, 30
 @dataclass
 class Case:
     """The files, by their paths below the folder, which stands for @HERE@ in them and in the arguments. Where
-    the arguments are not sure to be well formed, the oracle says nothing of a usage error."""
+    the arguments are not sure to be well formed, the oracle does not judge usage errors."""
     files: dict
     args: list
     sure: bool = True
@@ -36,7 +36,7 @@ class Case:
 
     @staticmethod
     def load(folder):
-        """The case that stands below a folder."""
+        """Reads the case below a folder."""
         folder = pathlib.Path(folder)
         base = folder / "files"
         files = {str(path.relative_to(base)): path.read_bytes() for path in sorted(base.rglob("*"))
@@ -52,7 +52,7 @@ class Case:
 
 @dataclass
 class Run:
-    """What a run did: its status, what it printed, its processor time, and the files that stand then."""
+    """The result of a run: its status, what it printed, its processor time, and the files that stand then."""
     status: int
     out: bytes
     err: bytes
@@ -95,7 +95,7 @@ class Room:
                     file.write(text)
 
     def now(self):
-        """The files that stand in the folder."""
+        """The files that are in the folder."""
         found = {}
         for folder, _, names in os.walk(self.path):
             for name in names:

@@ -1,4 +1,4 @@
-"""Whether the hunks of a unified diff stand at the lines that they name: `patch` and `git apply` find a hunk
+"""Whether the hunks of a unified diff are at the lines that they name: `patch` and `git apply` find a hunk
 elsewhere too."""
 
 import re

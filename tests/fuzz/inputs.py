@@ -108,7 +108,7 @@ def index(rng, names, broken_share=0.02):
 
 
 def metadata(rng, members, others=()):
-    """What `cargo metadata` says of members: each a name, a version, the folder below the workspace, and
+    """The output of `cargo metadata` for members: each a name, a version, the folder below the workspace, and
     further members of its package. (No two members are one file, and none is missing: those are errors that
     have rows of their own.)"""
     packages = []

@@ -1,6 +1,6 @@
 """What an upgrade should leave of a manifest, worked out from the documents (docs/UPGRADE.md) apart from the
 program.
-It speaks of the tree that `tomllib` reads, and not of bytes. `Unknown` where it has no opinion."""
+It works on the tree that `tomllib` reads, and not of bytes. `Unknown` where it has no opinion."""
 
 import json
 from dataclasses import dataclass, field
@@ -59,7 +59,7 @@ def tables(tree):
 
 
 def at(tree, place):
-    """What stands at a place."""
+    """The value at a place."""
     for step in place:
         if not isinstance(tree, dict):
             return None
@@ -87,7 +87,7 @@ def readable(value):
 
 
 def entry_of(place, key, value):
-    """The entry that stands at a key; none where it is passed over."""
+    """The entry at a key; None where it is skipped."""
     if isinstance(value, str):
         return Entry(place, key, False, value.split("+")[0], True, None)
     if not isinstance(value, dict) or not readable(value):
@@ -139,7 +139,7 @@ def no_constant(text):
 
 
 def read_line(line):
-    """What a line of an index says; a ValueError where it is none."""
+    """The object of an index line; a ValueError where it is none."""
     record = json.loads(line.decode(), parse_float=finite, parse_constant=no_constant)
     # (half of a pair of surrogates is no character)
     json.dumps(record, ensure_ascii=False).encode()

@@ -1,4 +1,4 @@
-"""Faults of what the program does: each runs it with other arguments or another index, or spoils the files
+"""Faults in the actions of the program: each runs it with other arguments or another index, or spoils the files
 that it wrote."""
 
 import pathlib

@@ -1,4 +1,4 @@
-"""Faults of what the program says: its status, and what it prints."""
+"""Faults in the reports of the program: its status, and what it prints."""
 
 import os
 import pathlib

@@ -27,7 +27,7 @@ class Run:
         return [path for path, text in manifests().items() if self.before.get(path) != text]
 
     def has(self, *args):
-        """Whether one of these arguments stands there."""
+        """Whether the run has one of these arguments."""
         return any(arg.split("=")[0] in args for arg in self.args)
 
 
@@ -42,7 +42,7 @@ def edit(path, old, new, count=1):
 
 
 def without(args, *names):
-    """The arguments without options of these names, and without their values where they stand behind them."""
+    """The arguments without options of these names, and without their values in the arguments after them."""
     left, skip = [], False
     for arg in args:
         if not skip and arg.split("=")[0] not in names:

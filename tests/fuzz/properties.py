@@ -1,4 +1,4 @@
-"""What each run has to keep to, whatever its case; and what the runs of a case have to keep to among each
+"""The properties that each run must have, whatever its case, and those of the runs of a case compared with each
 other."""
 
 import os
@@ -33,7 +33,7 @@ def shown(run):
 
 
 def general(room, run, may_check=False, may_write=True):
-    """What is wrong with any run: its status, what it says of it, its time, and what it wrote."""
+    """What is wrong with any run: its status, its messages about it, its time, and what it wrote."""
     error, missing = ERROR.search(run.err), MISSING.search(run.err)
     changed = changed_files(room, run)
     if run.status < 0:

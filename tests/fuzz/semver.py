@@ -110,7 +110,7 @@ def read_comparator(text):
     if any(number >= LIMIT for number in numbers) or wild[0] or wild != sorted(wild):
         return None
     if any(wild):
-        # (an operator before a wildcard counts as if the numbers alone stood behind it)
+        # (an operator before a wildcard counts as if the numbers alone followed it)
         return None if match[5] or "+" in text else Comparator(op or "*", numbers)
     return Comparator(op or "^", numbers, match[5] or "")
 

@@ -20,7 +20,7 @@ def may_change(data):
 
 
 def expected(room, args):
-    """What the oracle wants; none where it has no opinion."""
+    """The expectation of the oracle; None where it has no opinion."""
     try:
         return set_version_oracle.expected(args[1:], room.begin, room.path)
     except oracle.Unknown:
@@ -28,7 +28,7 @@ def expected(room, args):
 
 
 def by_oracle(room, run, wanted):
-    """What the oracle says against a run."""
+    """Yields how a run differs from the expectation of the oracle."""
     if wanted is None and run.status != 1:
         yield f"the oracle wants an error: {shown(run)}"
     if wanted and run.status:

@@ -18,7 +18,7 @@ def without_files(case):
         yield replace(case, files={other: text for other, text in case.files.items() if other != name})
 
 
-def without_words(case):
+def without_args(case):
     """The case without one or two of its arguments, behind the subcommand."""
     for count in (2, 1):
         for at in range(1, len(case.args) - count + 1):
@@ -50,7 +50,7 @@ def smaller(case, wrong, judge, until):
     changed = True
     while changed and time.monotonic() < until:
         changed = False
-        for make in (without_words, without_files, without_lines):
+        for make in (without_args, without_files, without_lines):
             changed |= bool(steps := list(steps_of(case, make, judge, ways, until)))
             case = steps[-1] if steps else case
     return case

@@ -47,7 +47,7 @@ class Writer:
         return "#" + self.rng.choice(COMMENTS) if self.chance(self.comments) else ""
 
     def line_end(self):
-        """What may stand behind a statement, to the end of its line, and perhaps further lines without a
+        """What may follow a statement, to the end of its line, and perhaps further lines without a
         statement."""
         text = self.rng.choice(("", " ", "\t")) + self.comment() + self.end()
         while self.chance(0.08 + self.odd / 5):

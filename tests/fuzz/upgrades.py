@@ -49,10 +49,10 @@ def configured(room):
     for name, text in room.begin.items():
         if ".cargo/" in name:
             try:
-                told_of = tree_of(text)
+                settings = tree_of(text)
             except NoTree:
                 return None
-            registries, sources = told_of.get("registries", {}), told_of.get("source", {})
+            registries, sources = settings.get("registries", {}), settings.get("source", {})
             if not isinstance(registries, dict) or not all(map(names_index, registries.values())):
                 return None
             if sources:
@@ -110,7 +110,7 @@ def expected(room, args):
 
 
 def by_oracle(room, args, run):
-    """What the oracle says against a run."""
+    """Yields how a run differs from the expectation of the oracle."""
     try:
         wanted = expected(room, args)
     except oracle.Unknown:

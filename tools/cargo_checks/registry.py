@@ -6,9 +6,9 @@
 Serves the sparse registries `one` and `two` with ETags, and the files of their crates; `files` is a registry whose index is a
 git repository at DIR/files. DIR/port gets the port, DIR/tls-port that of the same by https. DIR/certificate.pem gets a
 certificate of 127.0.0.1 that nothing trusts, DIR/key.pem its key.
-DIR/requests gets a line for each request of a client that is not cargo: its path, `sent` or `unchanged` (304), its user agent, what it
-has for Authorization or `-`, its Accept-Encoding or `-`, and `proxied` where this server was its proxy. DIR/mode says what
-such a client is answered:
+DIR/requests gets a line for each request of a client that is not cargo: its path, `sent` or `unchanged` (304), its user
+agent, its Authorization or `-`, its Accept-Encoding or `-`, and `proxied` where this server was its proxy. DIR/mode selects
+the response to such a client:
 
     down, status N      an answer of that status, without a body
     status N NAME       the same, for the crate NAME alone

@@ -1,8 +1,8 @@
 #!/usr/bin/env python3
-"""at_once.py PROGRAM: runs at once over one workspace, an editor that appends beside a run, and an attacker who swaps a run's
-temporary file. Of two runs each ends with status 0, the later one says that it waits, and all manifests are of the one that
-wrote last; what an editor appends stays, whether the run ends well or with an error that names the file; no file outside of
-the workspace changes its owner or its text."""
+"""at_once.py PROGRAM: runs at once over one workspace, an editor that appends beside a run, and an attacker who swaps a
+run's temporary file. Each of two runs ends with status 0, the later one reports that it waits, and all manifests are from
+the one that wrote last; what an editor appends stays, whether the run ends well or with an error that names the file; no
+file outside of the workspace changes its owner or its text."""
 
 import collections
 import os
@@ -25,7 +25,7 @@ def start(args):
 
 
 def pairs(workspace, counts):
-    """Pairs of runs that set two versions. What is wrong with what they leave."""
+    """Runs pairs that set two versions. Yields what is wrong with the manifests that they leave."""
     # (the same `=` requirement of each version: one that is set later replaces it)
     two, three = workspace.bumped("0.2.0"), workspace.bumped("0.3.0")
     for number in range(PAIRS):
@@ -35,7 +35,7 @@ def pairs(workspace, counts):
         state = workspace.state(two, three)
         waited = sum(b"Blocking waiting for file lock on " in text for text in output)
         counts["pairs", state[0], f"{waited} waited"] += 1
-        # (0.2.0 behind 0.3.0 is refused, since `set-version` sets no lower version)
+        # (0.2.0 after 0.3.0 is an error, since `set-version` sets no lower version)
         statuses = sorted(one.returncode for one in runs)
         if len(set(state)) != 1 or state[0] == "x" or statuses not in ([0, 0], [0, 1]):
             yield f"pair {number}: statuses {statuses}, {state}, {output}"
@@ -46,7 +46,7 @@ def pairs(workspace, counts):
 
 
 def edits(workspace, usual, counts):
-    """An editor that appends a line to a manifest at any moment of a run. What is wrong with what they leave."""
+    """Runs an editor that appends a line to a manifest at any moment of a run. Yields what is wrong with the result."""
     new = workspace.raised()
     for number in range(EDITS):
         workspace.reset()
@@ -74,7 +74,7 @@ def edits(workspace, usual, counts):
 
 
 def swap(folder, victim, stop, swapped):
-    """An attacker who owns a folder, and puts a link in the place of each temporary file."""
+    """The attacker, who owns a folder and replaces each temporary file with a link."""
     while not stop.is_set():
         for name in os.listdir(folder):
             if name.startswith(MADE):

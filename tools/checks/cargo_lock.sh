@@ -84,7 +84,7 @@ row_not_recursive() {
   noted 0 upgrade --recursive false
   locks dep 1.0.0
 }
-# Where cargo cannot resolve the workspace, no call is made, and it is said that the lock file stays.
+# Where cargo cannot resolve the workspace, no call is made, and a message says that the lock file stays.
 row_unresolved() {
   begins "dep = \"1.0\"
 $git_dependency }" dep@1.0.0
@@ -133,7 +133,7 @@ row_dry_runs() {
   done
   same "$room/first/Cargo.toml" Cargo.toml
 }
-# Arguments behind `--`.
+# Arguments after `--`.
 row_dashes() {
   run 0 upgrade -n --
   shown

@@ -138,7 +138,7 @@ MOVE
   [ "$(sort -u "$room/devices" | wc -l)" -le 1 ] || fail 'a file is moved to another file system'
   newest
 }
-# Files that cannot grow: the old entry stays whole, and it is said that the new one is not had.
+# Files that cannot grow: the old entry stays whole, and a message says that the new one is missing.
 row_no_room() {
   run 0 upgrade -n
   publish

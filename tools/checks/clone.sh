@@ -24,7 +24,7 @@ if [ ! -f release/SOURCES ] || [ "$(cat release/SOURCES)" != "$(tools/sources)" 
   tools/sources > release/SOURCES
 fi
 
-# The tools of the system and the cargo of PATH (where it is rustup's, the one that stands behind it), and nothing else.
+# The tools of the system and the cargo of PATH (where it is rustup's, the one that rustup runs), and nothing else.
 cargo_bin=$(rustc --print sysroot)/bin
 [ -x "$cargo_bin/cargo" ] || cargo_bin=$(dirname "$(command -v cargo)")
 mkdir "$room/home" "$room/tmp"

@@ -23,7 +23,7 @@ def put(path, text):
 
 
 def workspace(root, name):
-    """A workspace in its own repository of git: a member at its root, and one in a folder of this name. Answers the paths
+    """A workspace in its own repository of git: a member at its root, and one in a folder of this name. Returns the paths
     of their manifests below the root."""
     os.makedirs(root)
     subprocess.run(["git", "init", "-q", root], check=True)

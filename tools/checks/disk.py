@@ -62,7 +62,7 @@ def limit():
 
 
 def limited(place):
-    """Under a limit of the size of files, which refuses a write or ends the process."""
+    """A limit of the size of files, at which a write fails or the process ends."""
     done = place.run(preexec_fn=limit, restore_signals=False)
     yield from place.faults("a limit of the size of files", done, 1, OLD)
     place.run(preexec_fn=limit)

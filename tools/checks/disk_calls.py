@@ -3,10 +3,10 @@
 paths that are examined, files that are opened, read, written, flushed, locked, moved or removed, and what is printed.
 LIBRARY fails the call whose number FAIL_AT is.
 
-Call 1 fails, then 2, until a run ends without a fault. A run ends with status 0, and prints and leaves what an undisturbed one
-does; or with status 1, says behind a front of that what failed (where it could be printed), and of the manifests in their
-order leaves some raised and those behind them as they were, each whole. The next run, undisturbed, then does all, and no
-further file is left behind it."""
+Call 1 fails, then 2, until a run ends with no call failed. A run ends with status 0, and prints and leaves what an
+undisturbed one does; or it ends with status 1, prints a prefix of that and then the error (where it can be printed), and
+leaves the manifests whole: the first ones in their order raised, the others as they were. The next run, undisturbed, then
+completes the upgrade and leaves no further file."""
 
 import pathlib
 import sys

@@ -1,10 +1,10 @@
 #!/usr/bin/env python3
-"""documents.py [FILE ..]: what Markdown files name is there (all of the repository's, where none is given).
+"""documents.py [FILE ..]: checks that what Markdown files name exists (all of the repository's, where none is given).
 
 Checked are links: the file exists, and has the heading behind `#`. And paths in code spans: those that begin with a
 folder of the repository, with a crate's name, or, in a crate's README, with a folder of that crate, and names of Markdown
 files. NAME and such (`crates/NAME/src`) stand for any name, `*` for any part of one. Prints a line for each that is not
-there; the status is 1 then. An example after "from `FILE`" has to stand in that file too, but for spaces."""
+there; the status is 1 then. An example after "from `FILE`" has to be in that file too, except for spaces."""
 
 import functools
 import glob
@@ -92,7 +92,7 @@ def wrong_quotes(text):
 
 
 def missing(path, text):
-    """What a file names that is not there."""
+    """What a file names that does not exist."""
     yield from wrong_quotes(text)
     text = FENCE.sub("", text)
     yield from bad_links(path, text)
@@ -107,7 +107,7 @@ def missing(path, text):
                 if found and not any(stands(it) for it in found):
                     yield "`%s`, which is not there" % token
     for token in TOKEN.findall(LINK.sub("", text)):
-        if token.startswith("build/"):  # what tools make there is in no clone
+        if token.startswith("build/"):  # files that tools make there are in no clone
             continue
         folders = ("", "docs", "crates/NAME", os.path.relpath(os.path.dirname(path), ROOT))
         if not any(stands(os.path.normpath(os.path.join(it, token))) for it in folders):

@@ -1,5 +1,5 @@
 #!/usr/bin/env python3
-"""edges.py PROGRAM   what the program does at its edges: see edges.sh. Prints each case that fails."""
+"""edges.py PROGRAM   the edge cases that edges.sh lists. Prints each case that fails."""
 import json
 import os
 import pty
@@ -60,7 +60,7 @@ def expect(what, holds, *shown):
 
 
 def refused(room, what, part, *arguments, env=None):
-    """The run is a usage error that says this, and every file stays."""
+    """Checks that the run is a usage error with this text, and that every file stays."""
     before = room.files()
     done = room.run(*arguments, env=env)
     shown = done.stderr.decode(errors="backslashreplace")
@@ -100,7 +100,7 @@ def outputs(top):
 
 
 def folders(top):
-    """A folder of an index that is none."""
+    """An index folder that does not exist or is no folder."""
     room = Room(top)
     os.mkfifo(room.at("pipe"))
     for name in ["none", "index.json", "pipe", "/dev/null"]:
@@ -204,7 +204,7 @@ def writes(top):
 
 
 def limits(top):
-    """The limits of docs/LIMITS.md: what is at the limit is taken, one more is not."""
+    """The limits of docs/LIMITS.md: an input at the limit is accepted, one above it is an error."""
     room = Room(top)
 
     def taken(what, at, past, write):

@@ -1,7 +1,7 @@
 #!/usr/bin/env python3
 """edits.py CALLS: edits at random places of two manifests, each made by the program edit_calls (CALLS) and by Python on
-the tree that tomllib reads. Each must leave a text that reads as the old tree but at that place, and an insertion all
-bytes around one place as they were. The places come from a fixed seed, so a failure can be repeated."""
+the tree that tomllib reads. Each must leave a text that reads as the old tree except at that place, and an insertion must
+leave all bytes around the new entry as they were. The places come from a fixed seed, so a failure can be repeated."""
 
 import copy
 import pathlib
@@ -55,14 +55,14 @@ def args_of(value):
 
 
 def at(tree, place):
-    """What stands at a place."""
+    """The value at a place."""
     for step in place:
         tree = tree[step]
     return tree
 
 
 def has(tree, place):
-    """Whether something stands at a place."""
+    """Whether there is a value at a place."""
     try:
         at(tree, place)
     except (KeyError, IndexError, TypeError):
@@ -71,7 +71,7 @@ def has(tree, place):
 
 
 def entry_tree(entry):
-    """What a new entry reads as."""
+    """The tree of a new entry."""
     return dict(entry["members"]) if isinstance(entry, dict) else entry
 
 
@@ -87,7 +87,7 @@ def removed(tree, place, left):
 
 
 def common(old, new):
-    """How many bytes at the front and at the back two texts share, each byte counted once."""
+    """The length of the common prefix and suffix of two texts, each byte counted once."""
     short = min(len(old), len(new))
     front = next((i for i in range(short) if old[i] != new[i]), short)
     rest = short - front
@@ -138,7 +138,7 @@ def main():
 
 
 def judge(command, answer, tree, meant, place, old, new):
-    """Stops where an edit did anything else than it was to do."""
+    """Exits with a message where an edit did anything other than requested."""
     call = command[0]
     if answer == b"no such place" and call in ("set_value", "replace_entry"):
         assert new == old, command

@@ -34,9 +34,9 @@ NOT_SHOWN = {
     48: "of the arguments, which a machine that runs the program has",
     49: "an edit of a plan replaces literals alone, which is never refused",
 }
-# What the machine says of a link to itself.
+# The system's error for a link to itself.
 LOOP = "  cause: Too many levels of symbolic links"
-# Errors with no file at fault: of the command line, of a stream, or of memory.
+# Errors that concern no file: of the command line, of a stream, or of memory.
 NO_FILE = {19, 20, 39, 43, 44, 45, 46}
 
 failures = []
@@ -125,7 +125,7 @@ def set_version(number, args, first, *parts, **more):
 
 
 def manifests():
-    """Manifests that are no TOML, not UTF-8, not there, or not to be read."""
+    """Manifests that are no TOML, not UTF-8, missing, or unreadable."""
     line = 'q = "1.0'
     workspace(entries(line + "\n"))
     shown = "  at @/m2/Cargo.toml:6:5\n      |\n    6 | %s\n      |     ^\n  cause: " % line
@@ -228,7 +228,7 @@ def registries():
 
 
 def index_entries():
-    """Lines of an index that are none, wherever it stands, and an entry that cannot be read."""
+    """Lines that are no index lines, in each kind of index, and an entry that cannot be read."""
     bad = INDEX + '{"name":"q"}\n'
     workspace(entries('q = "1.0"\n'))
     put(WORKSPACE + "/ix", bad)
@@ -266,7 +266,7 @@ def metadata():
 
 
 def deliveries():
-    """Plans that are made and not carried out."""
+    """Plans that are made but not applied."""
     workspace(entries('q = "1.0"\n'))
     held = ["--index-file", "ix", "--locked"]
     upgrade(42, "Error: cannot upgrade due to `--locked`", "  at @/m2/Cargo.toml\n", "  help: ", args=held)

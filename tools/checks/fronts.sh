@@ -1,6 +1,6 @@
 #!/usr/bin/env bash
-# fronts.sh PROGRAM   each front of the example's manifest is accepted exactly where Python's own reader of TOML 1.0.0
-# accepts it, ends quickly on a small stack, and a front that is refused stays as it was.
+# fronts.sh PROGRAM   each prefix of the example's manifest is accepted exactly where Python's own reader of TOML 1.0.0
+# accepts it, ends quickly on a small stack, and a prefix that is an error stays as it was.
 set -eu -o pipefail
 here=$(cd "$(dirname "$0")/../.." && pwd)
 ulimit -s 1024
@@ -30,7 +30,7 @@ with tempfile.TemporaryDirectory() as room:
             file.write(text[:length])
         command = [program, "upgrade", "--manifest-path", manifest, "--index-file", index]
         done = subprocess.run(command, stdout=subprocess.DEVNULL, stderr=subprocess.PIPE, timeout=10)
-        # the first line; where the text goes wrong stands below it
+        # the first line; the place of the error is below it
         message = done.stderr.split(b"\n")[0]
         wanted = (0, b"    Checking ") if is_document(text[:length]) else (1, b"Error: Unable to parse Cargo.toml")
         accepted += wanted[0] == 0

@@ -1,6 +1,6 @@
 #!/usr/bin/env python3
 """generated.py PROGRAM CALLS: inputs that are too long or too many for a case of tests/cases, made here and
-given to the built program PROGRAM or to edit_calls (CALLS): texts at the limit of nesting, the fronts of a
+given to the built program PROGRAM or to edit_calls (CALLS): texts at the limit of nesting, the prefixes of a
 manifest, tables and workspaces with many members, and the pieces of a text after each of several edits. The
 expected values come from docs/LIMITS.md and from how each input is made. Prints how many of each were tried."""
 
@@ -34,7 +34,7 @@ NO_DOCUMENT = (1, b"", b"Error: Unable to parse Cargo.toml\n")
 
 
 class Check:
-    """Runs programs in a folder of its own, and counts what holds."""
+    """Runs programs in a folder of its own, and counts the checks that pass."""
 
     def __init__(self, program, calls, folder):
         self.program, self.calls, self.folder = program, calls, pathlib.Path(folder)
@@ -50,7 +50,7 @@ class Check:
         return done.returncode, done.stdout, done.stderr
 
     def same(self, table, name, came, wanted):
-        """Counts what came as wanted, and prints what did not."""
+        """Counts results that are as expected, and prints those that are not."""
         self.counts[table] = self.counts.get(table, 0) + 1
         if came != wanted:
             self.failed += 1
@@ -73,7 +73,7 @@ def check_nesting(check):
 
 
 def check_fronts(check):
-    """Each front of a manifest: a document if it ends at the header, its line's end, or behind the brace."""
+    """Each prefix of a manifest: a document if it ends at the header, its line's end, or after the brace."""
     for count in range(68):
         is_document = count in (0, 14, 15) or count >= 59
         check_document(check, "fronts of a manifest", f"{count} bytes", MANIFEST[:count], is_document)
@@ -85,7 +85,7 @@ def check_many_entries(check):
     for place, wanted in (([".dependencies"], b"\nlen 10000\n"),
                           ([".dependencies", ".crate-9999"], b"\nstring 1.9999")):
         _, shown, _ = check.run(check.calls, ["Cargo.toml", "show", *place, "="], {"Cargo.toml": text})
-        # (a string stands last, without a line's end)
+        # (the text ends with a string, without a line's end)
         is_shown = wanted in shown if wanted.endswith(b"\n") else shown.endswith(wanted)
         check.same("ten thousand entries", place[-1], is_shown, True)
 
@@ -106,7 +106,7 @@ def check_index_lines(check):
 
 
 def package_of(check, name, path):
-    """What metadata say of a package."""
+    """The metadata of a package."""
     manifest = f"{check.folder}/{path}/Cargo.toml"
     return {"name": name, "id": path, "version": "1.0.0", "manifest_path": manifest}
 
@@ -162,7 +162,7 @@ TRIED = [check_nesting, check_fronts, check_many_entries, check_index_lines, che
 
 
 def main():
-    """Tries all."""
+    """Runs all checks."""
     program, calls = (str(pathlib.Path(path).resolve()) for path in sys.argv[1:])
     failed = 0
     for tried in TRIED:

@@ -2,11 +2,11 @@
 """growth.py LIBRARY CALLS: each request for memory of a call is refused in turn. LIBRARY refuses the one whose number
 REFUSE_AT is; CALLS is the program edit_calls.
 
-Request 1 is refused, then 2, until a run ends with no request refused. Each run must answer 46, or what is wanted where nothing
-is refused; the last must give what is wanted. After 46 the manifest that an edit was lent has its old text and shows what
-it showed, and the same edit of it then gives what is wanted; a cache still has the answer that it held, and the same call
-then gives what is wanted; of three outputs those before the refused request are whole and those after it untouched; no
-output is written by a plan, and no further file is left. What is wanted is written here by hand."""
+Request 1 is refused, then 2, until a run ends with no request refused. Each run must return error 46, or the expected result
+where nothing is refused; the last must return the expected result. After 46 the manifest that an edit borrowed has its old
+text and views, and the same edit of it then gives the expected result; a cache still has its answer, and the same call then
+gives the expected result; of three outputs those before the refused request are whole and those after it untouched; no
+output is written by a plan, and no further file is left. The expected results are written here by hand."""
 
 import itertools
 import json
@@ -61,14 +61,14 @@ def edit(what, before, views, after, *args):
 
 
 def plan(what, answer, files, *args, held=False, **others):
-    """A call of a plan or a reader, with a cache that holds an answer or without one."""
+    """A call of a plan or a reader, with a cached answer or without one."""
     lacks = [b"refused 46 " + LACK + b"\n"] + [CACHED % 0 + answer + b"done\n"] * held
-    left = {"left": files, "left_by_refusal": [files], **others}
+    left = {"left": files, "left_early": [files], **others}
     return Call(what, args, files, answer + b"done\n", lacks, **left)
 
 
 def lookup(call, answer):
-    """A call for a name with five entries, and how many lookups it has made: one for the name that is held and one for this
+    """A call for a name with five entries, and how many lookups it has made: one for the cached name and one for this
     one. Where a lookup ended with 46, no entries are in the cache, and the second call makes one more; where the entries
     were in the cache already, it makes none."""
     files = {"Cargo.toml": b"", "index.json": VERSIONS}
@@ -100,8 +100,8 @@ def edits():
 def workspace(members):
     """The files of a workspace of these members."""
     packages = [{"name": name, "id": name, "version": "0.1.0", "manifest_path": f"@HERE@/{name}/Cargo.toml"} for name in OLD]
-    reported = {"workspace_root": "@HERE@", "workspace_members": list(OLD), "packages": packages}
-    return {"metadata.json": json.dumps(reported).encode(), "Cargo.toml": b'[workspace]\nmembers = ["a", "b", "c"]\n',
+    metadata = {"workspace_root": "@HERE@", "workspace_members": list(OLD), "packages": packages}
+    return {"metadata.json": json.dumps(metadata).encode(), "Cargo.toml": b'[workspace]\nmembers = ["a", "b", "c"]\n',
             **{f"{name}/Cargo.toml": text for name, text in members.items()}}
 
 
@@ -127,7 +127,7 @@ def lay_out(room, files):
 
 
 def run(program, call, library, number):
-    """A run with a refused request: what it answered, whether a request was refused, and the files left."""
+    """A run with a refused request: its result, whether a request was refused, and the files left."""
     with tempfile.TemporaryDirectory() as folder:
         room, seen = pathlib.Path(folder) / "in", pathlib.Path(folder) / "seen"
         room.mkdir()
@@ -166,7 +166,8 @@ def refused(pool, program, call, library):
             printed[answer[1]] += 1
             if not seen:
                 if lacks or not reported:
-                    sys.exit(f"{call.what}: " + ("a run with no request refused answered 46" if lacks else "no run reported a refused request"))
+                    fault = "a run with no request refused answered 46" if lacks else "no run reported a refused request"
+                    sys.exit(f"{call.what}: {fault}")
                 return number - 1, reported, printed
 
 

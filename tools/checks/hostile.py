@@ -23,7 +23,7 @@ INDEX = b'{"name":"a","vers":"1.0.0"}\n'
 
 
 def bounded(megabytes):
-    """What is set in the process before the program starts."""
+    """Sets the limits of the process before the program starts."""
     def bound():
         room = int(MEMORY * max(1, megabytes))
         resource.setrlimit(resource.RLIMIT_STACK, (STACK, STACK))
@@ -34,7 +34,7 @@ def bounded(megabytes):
 
 
 def put(room, files):
-    """Writes the files of a row into a folder, whose path stands for @HERE@ in them."""
+    """Writes the files of a row into a folder, whose path replaces @HERE@ in them."""
     for name, text in files.items():
         path = room / name
         path.parent.mkdir(parents=True, exist_ok=True)

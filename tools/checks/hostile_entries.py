@@ -58,7 +58,7 @@ def entry_rows():
 
 
 def chain(length, last):
-    """Sources of which each is replaced with the next, and the last as it is said."""
+    """Sources of which each is replaced with the next, and the last as given."""
     return lambda: b"".join(b'[source.s%d]\nreplace-with = "s%d"\n' % (n, n + 1) for n in range(length - 1)) \
         + b"[source.s%d]\n" % (length - 1) + last
 

@@ -60,7 +60,7 @@ def packages(count, path):
 
 
 def metadata(what, listed, status=1, output=NO_METADATA, files=None, args=("upgrade", *INDEX_FILE), stays=True):
-    """What `cargo metadata` says, as bytes or what they mean, under a command."""
+    """An output of `cargo metadata`, as bytes or as a value, under a command."""
     def made():
         text = listed()
         return {"metadata.json": text if isinstance(text, bytes) else json.dumps(text).encode(), **(files() if files else {})}

@@ -1,8 +1,8 @@
 #!/usr/bin/env python3
-"""killed.py PROGRAM [KILLS]: the program is killed 100 times (or KILLS times) at varying moments while it writes the 30 manifests
-of a workspace, and what it leaves stays. Each manifest is always the old or the new text whole, those that are new are the first ones in their
-order, and most kills leave all old or all new; leavings do not pile up. An undisturbed run
-then ends as ever, and never writes in place."""
+"""killed.py PROGRAM [KILLS]: the program is killed 100 times (or KILLS times) at varying moments while it writes the 30
+manifests of a workspace, and what it leaves stays. Each manifest is always the old or the new text whole, those that are
+new are the first ones in their order, and most kills leave all old or all new; files of killed runs do not pile up. An
+undisturbed run then ends as ever, and never writes in place."""
 
 import json
 import os
@@ -36,7 +36,7 @@ class Manifests:
         self.own = self.names()
 
     def metadata(self):
-        """What `cargo metadata` says of a workspace of these manifests, the first of them at its root."""
+        """The output of `cargo metadata` for a workspace of these manifests, the first of them at its root."""
         packages = [{"name": f"m{number}", "id": f"m{number}", "version": "0.1.0", "manifest_path": str(path)}
                     for number, path in enumerate(self.paths)]
         return {"workspace_root": str(self.paths[0].parent), "packages": packages,
@@ -55,7 +55,7 @@ class Manifests:
         return len(self.names() - self.own)
 
     def most_left(self):
-        """How many of these stand in the folder that has the most of them."""
+        """The greatest number of such files in one folder."""
         folders = [os.path.dirname(name) for name in self.names() - self.own]
         return max(map(folders.count, folders), default=0)
 
@@ -64,7 +64,7 @@ class Manifests:
         return all(path.read_bytes() in texts for path in self.paths)
 
     def raised(self):
-        """How many manifests at the front are new; none where one behind them is not old."""
+        """How many manifests are new, if these are the first ones and the others are old; else None."""
         texts = [path.read_bytes() for path in self.paths]
         front = next((at for at, text in enumerate(texts) if text != self.new), len(texts))
         return front if all(text == self.old for text in texts[front:]) else None
@@ -78,7 +78,7 @@ class Manifests:
 
 
 def kill(manifests, usual):
-    """One run, killed at any moment. Whether it had not ended."""
+    """Kills one run at any moment. Returns whether it had not ended before."""
     run = manifests.start()
     time.sleep(random.uniform(0, usual))
     ended = run.poll() is not None

@@ -3,10 +3,10 @@
 examples/first and the workspace of examples/workspace by `upgrade`, that of examples/versions by `set-version`. LIBRARY
 refuses the request whose number REFUSE_AT is.
 
-Request 1 is refused, then 2, until a run ends with no request refused. A run ends with status 0, and prints and leaves what an
-undisturbed one does; or with status 1, says after the start of that output that memory ran out, and of the manifests in their order
-leaves some raised and those behind them as they were. No further file is left. What the manifests become was worked out by
-hand (examples/NAME/*.diff)."""
+Request 1 is refused, then 2, until a run ends with no request refused. A run ends with status 0, and prints and leaves
+what an undisturbed one does; or it ends with status 1, prints a prefix of that and then that memory ran out, and leaves
+the first manifests in their order raised, the others as they were. No further file is left. What the manifests become was
+worked out by hand (examples/NAME/*.diff)."""
 
 import itertools
 import os
@@ -44,7 +44,7 @@ def changed(name):
 
 
 class Place:
-    """An example that is laid out in a folder, and what its run is to come to."""
+    """An example that is laid out in a folder, and the expected result of its run."""
 
     def __init__(self, program, library, name, folder):
         self.program, self.library, self.here = program, library, folder / "in"
@@ -71,7 +71,7 @@ class Place:
 
     def run(self, what, number):
         """A run in which one request or call is refused: its status and what it printed, and the name of the call that was
-        refused, empty where it did not come to that."""
+        refused, empty where no call was."""
         seen = self.here.parent / "seen"
         seen.unlink(missing_ok=True)
         environment = {"LD_PRELOAD": self.library, what: str(number), "REFUSE_SEEN": str(seen),
@@ -81,18 +81,18 @@ class Place:
             os.fsencode(self.here), b"")), seen.read_text() if seen.exists() else ""
 
     def raised(self):
-        """How many manifests are raised, those behind them as they were; none where they stand otherwise."""
+        """How many manifests are raised, if these are the first ones and the others are as they were; else None."""
         texts = [path.read_bytes() for path in self.manifests]
         counts = [n for n in range(len(texts) + 1) if texts == self.new[:n] + self.old[n:]]
         return max(counts, default=None)
 
     def is_front(self, out, err):
-        """Whether a run printed a front of what an undisturbed one does."""
+        """Whether a run printed a prefix of the output of an undisturbed one."""
         return self.usual[1].startswith(out) and self.usual[2].startswith(err)
 
 
 def lacked(place, number):
-    """What is wrong with a run in which a request is refused, whether it said so, and whether it came to that."""
+    """What is wrong with a run in which a request is refused, whether the run reported it, and whether one was refused."""
     place.reset()
     answer, seen = place.run("REFUSE_AT", number)
     (status, out, err), raised = answer, place.raised()

@@ -1,6 +1,6 @@
 #!/usr/bin/env bash
 # memory.sh PROGRAM   each request for memory of a run over each of the examples is refused in turn (memory.py): the program
-# then ends with status 1, says that it is out of memory and leaves manifests whole, or does without and raises them as ever.
+# then ends with status 1, reports that it is out of memory and leaves manifests whole, or raises them as ever without it.
 set -eu -o pipefail
 here=$(cd "$(dirname "$0")/../.." && pwd)
 room=$(mktemp -d)

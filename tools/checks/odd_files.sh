@@ -1,6 +1,6 @@
 #!/usr/bin/env bash
-# odd_files.sh PROGRAM   a pipe or a device as manifest is refused as no path, one that is in the way of a search is passed
-# over, and nothing hangs. An index file may be a pipe, which is read to its end, and blank lines of it take no memory.
+# odd_files.sh PROGRAM   a pipe or a device as manifest is an error, one that a search meets is skipped, and
+# nothing hangs. An index file may be a pipe, which is read to its end, and blank lines of it take no memory.
 set -eu -o pipefail
 here=$(cd "$(dirname "$0")/../.." && pwd)
 room=$(mktemp -d)

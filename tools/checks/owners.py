@@ -1,10 +1,10 @@
 #!/usr/bin/env python3
-"""owners.py PROGRAM: who may read and write a manifest behind a run is who might before it. A member of a group writes the
-manifest of another user, root writes that of a user, a manifest is mounted alone, or stands in a folder where each user may
-remove only what is theirs. A user's own files stay, whatever their names; what killed runs left goes with the next run, also
-where it changes nothing. Pipes that the command line names are read to their end, one in the place of a configuration is an
-error; the calls of `cargo update` may go to standard output and to pipes. Of one file under two members, and of
-a workspace with a member that may not be written, nothing is written."""
+"""owners.py PROGRAM: the users who may read and write a manifest are the same before and after a run. A member of a group
+writes the manifest of another user, root writes that of a user, a manifest is mounted alone, or stands in a folder where
+each user may remove only what is theirs. A user's own files stay, whatever their names; what killed runs left goes with
+the next run, also where it changes nothing. Pipes that the command line names are read to their end, one in place of a
+configuration is an error; the calls of `cargo update` may go to standard output and to pipes. Of one file under two
+members, and of a workspace with a member that may not be written, nothing is written."""
 
 import json
 import os
@@ -70,7 +70,7 @@ def owners(place):
         yield from place.faults(what, place.run(by))
         seen = place.manifest.stat()
         wanted = facts[:3]
-        # (the machine takes set-id bits from a file that another than root writes)
+        # (the system clears the set-id bits of a file that a user other than root writes)
         if (seen.st_uid, seen.st_gid, seen.st_mode & 0o7777) != wanted:
             yield f"{what}: {seen.st_uid}:{seen.st_gid} {seen.st_mode & 0o7777:o}"
     place.own(0, 0, 0o644, 0, 0, 0o755)

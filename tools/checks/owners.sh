@@ -1,5 +1,5 @@
 #!/usr/bin/env bash
-# owners.sh PROGRAM   who owns, reads and writes what behind a run, and what stands in the place of a file (owners.py), in a
+# owners.sh PROGRAM   who owns, reads and writes what after a run, and what may be in place of a file (owners.py), in a
 # space of its own for mounts where the machine allows one.
 set -eu -o pipefail
 here=$(cd "$(dirname "$0")" && pwd)

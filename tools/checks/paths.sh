@@ -1,6 +1,6 @@
 #!/usr/bin/env bash
-# paths.sh PROGRAM   an empty path, as of an unset variable, is an error of the command line and no manifest changes. An error
-# names the path at which it arose, and the line; a pipe as manifest is an error at its path, and is not waited for.
+# paths.sh PROGRAM   an empty path, as of an unset variable, is an error of the command line and no manifest changes. An
+# error names the path at which it arose, and the line; a pipe as manifest is an error at its path, and is not waited for.
 set -eu -o pipefail
 room=$(mktemp -d)
 trap 'rm -rf "$room"' EXIT

@@ -14,7 +14,7 @@ import tempfile
 
 ROOT = pathlib.Path(__file__).resolve().parents[2]
 COMMANDS = {"upgrade", "set-version"}
-# options by their values: one always, one that may be left out, or none
+# options with a value, with an optional value, and without one
 VALUED = {"package", "exclude", "rust-version", "bump", "metadata"}
 OPTIONAL = {"compatible", "incompatible", "pinned", "recursive"}
 FLAGS = {"never-lower", "locked", "offline", "workspace", "all", "ignore-rust-version"}
@@ -66,7 +66,7 @@ def options_of(arguments):
 
 
 def request_of(case, room):
-    """The request that does what a case does."""
+    """The request that is equivalent to a case."""
     arguments = [room.filled(argument) for argument in case["args"]]
     if arguments[:1] == [] or arguments[0] not in COMMANDS or case.keys() & {"program", "folder", "environment", "stdin"}:
         raise Inexpressible(case["title"])

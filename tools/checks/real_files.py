@@ -1,6 +1,6 @@
 #!/usr/bin/env python3
 """real_files.py PROGRAM: files of this machine that the built program PROGRAM reads and writes in turn:
-permissions, links, writing in place, and the new file beside the old one. Prints how many steps came as wanted."""
+permissions, links, writing in place, and the new file beside the old one. Prints how many steps had the expected result."""
 
 import itertools
 import json
@@ -13,7 +13,7 @@ import tempfile
 
 REFUSE = pathlib.Path(__file__).resolve().parents[1] / "refuse.c"
 
-# A name, a call of the program or of the machine, a path below the folder, an argument, and what is wanted.
+# A name, a call of the program or of the machine, a path below the folder, an argument, and the expected result.
 STEPS = [
     ("no file yet", "kind", "/a", "", "absent"),
     ("no text yet", "read", "/a", "", "none"),
@@ -53,7 +53,7 @@ STEPS = [
     ("no further file", "left", "/d/e", "", "e e.same"),
 ]
 
-# What stands where the file beside cannot be moved over the old one.
+# The steps where the new file beside cannot be moved over the old one.
 UNMOVED = [
     ("an old file", "put", "/a", "old", "done"),
     ("the new one is not moved", "write", "/a", "new", "3 Failed to write updated Cargo.toml"),
@@ -117,7 +117,7 @@ class Files:
         (self.given / "index.json").write_text(line(label, name))
 
     def kind(self, path, _argument):
-        """What stands at a path, by what the program says of it as a manifest."""
+        """The kind of file at a path, by the program's message for it as a manifest."""
         self.give("one")
         error = self.run("upgrade", "--dry-run", "--manifest-path", path, "--index-file", "index.json")
         if error == "Failed to get cargo file metadata":
@@ -125,7 +125,7 @@ class Files:
         return "folder" if error == "Unable to find Cargo.toml for " + path else "file"
 
     def read(self, path, _argument):
-        """What a file says, where the program reads it as an index."""
+        """The label of a file, where the program reads it as an index."""
         self.give("one")
         error = self.run("upgrade", "--dry-run", "--manifest-path", "Cargo.toml", "--index-file", path)
         if error == "Failed to get cargo file metadata":
@@ -147,7 +147,7 @@ class Files:
 
 
 def leave(path):
-    """Leaves beside a file what killed runs leave: an empty new file, and a filled one with its own number."""
+    """Makes beside a file what killed runs leave: an empty new file, and a filled one with its own number."""
     folder = pathlib.Path(path).parent
     (folder / ".cargo-edit.999999-0.new").write_text("")
     filled = folder / "filled"
@@ -176,7 +176,7 @@ def step(files, call, path, argument):
 
 
 def steps(program, table, variables):
-    """Takes the steps of a table in turn, in a new folder: how many came as wanted, and how many did not."""
+    """Takes the steps of a table in turn, in a new folder: how many had the expected result, and how many had not."""
     held, failed = 0, 0
     with tempfile.TemporaryDirectory() as room:
         files = Files(program, os.path.realpath(room), variables)

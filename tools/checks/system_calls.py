@@ -1,9 +1,9 @@
 #!/usr/bin/env python3
-"""system_calls.py PROGRAM: each system call of an `upgrade` and of a `set-version` over three members is failed in turn, by
-`strace -e inject`, and each is the moment of a kill. No manifest is ever cut. A run that a call fails ends with status 0 and
-each manifest new, or with status 1 (2 where the current folder cannot be had), says why, and the manifests are old but for a
-front of them that the renames made. Behind a kill the next run leaves no file of the killed one. In a run that nothing
-befalls every new file is flushed to the disk before the first of them is moved to its place."""
+"""system_calls.py PROGRAM: each system call of an `upgrade` and of a `set-version` over three members is failed in turn,
+by `strace -e inject`, and each is the moment of a kill. No manifest is ever cut. A run with a failed call ends with
+status 0 and each manifest new, or with status 1 (2 where there is no current folder) and an error, and only the manifests
+that were renamed so far, the first ones, are new. After a kill the next run leaves no file of the killed one. In an
+undisturbed run every new file is flushed to the disk before the first of them is moved to its place."""
 
 import collections
 import concurrent.futures
@@ -56,13 +56,13 @@ def ordered():
 
 
 def inject(args, call, what):
-    """A run in which something befalls a system call."""
+    """A run in which a system call fails or the process is killed at it."""
     name, number = call
     return run(["strace", "-f", "-o", "/dev/null", "-e", f"inject={name}:{what}:when={number}", *args])
 
 
 def is_front(state):
-    """Whether the manifests are new up to one of them, and old behind it."""
+    """Whether the manifests are new up to one of them, and old after it."""
     return re.fullmatch("1*0*", state) is not None
 
 

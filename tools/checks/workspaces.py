@@ -5,7 +5,7 @@ import pathlib
 import subprocess
 
 NOBODY = ["setpriv", "--reuid=65534", "--regid=65534", "--clear-groups"]
-# What the names of files that a run makes begin with.
+# The prefix of the names of files that a run makes.
 MADE = ".cargo-edit."
 
 
@@ -55,11 +55,11 @@ class Workspace:
         return [self.program, "set-version", "--metadata-json", str(self.room / "metadata.json"), "--workspace", *args]
 
     def raised(self):
-        """What an upgrade leaves."""
+        """The texts after an upgrade."""
         return [text.replace(b'a = "1.0"', b'a = "1.5"') for text in self.old]
 
     def bumped(self, version="0.2.0"):
-        """What `set-version` of this version leaves."""
+        """The texts after `set-version` of this version."""
         short = version.rpartition(".")[0].encode()
         return [text.replace(b'"0.1.0"', b'"%s"' % version.encode()).replace(b'"0.1"', b'"%s"' % short)
                 for text in self.old]

@@ -58,7 +58,7 @@ def manifests(program, room, folder):
 
 
 def explained():
-    """The names of the suite's texts that are judged otherwise, each with what is said of it."""
+    """The names of the suite's texts that are judged otherwise, each with the verdict that is listed for it."""
     found = {}
     with open(os.path.join(os.path.dirname(os.path.abspath(__file__)), "differences.txt")) as file:
         for line in file:
