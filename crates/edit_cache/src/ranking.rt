@@ -36,8 +36,7 @@ const FEW: usize = 16;
 pub struct Ranked {
     ranks: Vec<Rank>,
     choices: Choices,
-    ghost known: { AreChoices (map rank_of ranks.items) choices }
-        by { AreChoices-prop (map rank_of ranks.items) choices },
+    ghost known: { AreChoices (map rank_of ranks.items) choices } by { AreChoices-prop (map rank_of ranks.items) choices },
 }
 
 /// The greatest version that a requirement admits, and the latest version.

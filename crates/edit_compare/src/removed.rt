@@ -228,7 +228,8 @@ pub fn has_lost(document: &Document, other: &Document, place: &[Step]) -> bool
     document.lemma_tree();
     other.lemma_tree();
     let remaining = steps_to_remaining(document, place);
-    let Some((number, there)) = equal_around_unordered(document, other, front(place, remaining)) else {
+    let Some((number, there)) = equal_around_unordered(document, other, front(place, remaining))
+    else {
         return false;
     };
     document.lemma_children(number);

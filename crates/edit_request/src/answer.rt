@@ -30,11 +30,7 @@ struct Run {
 
 /// Runs the program over the files of a request.
 fn run_over(alloc: Global, request: &mut Request) -> Result<Run, AllocError> {
-    let args: Vec<&str> = request
-        .args
-        .iter()
-        .map(|arg| arg.as_str())
-        .collect(alloc)?;
+    let args: Vec<&str> = request.args.iter().map(|arg| arg.as_str()).collect(alloc)?;
     let place = RunFolders {
         current: request.root.as_str(),
         cargo_home: None,

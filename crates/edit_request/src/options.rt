@@ -24,11 +24,7 @@ const UNAVAILABLE: &[&str] = &[
 ];
 
 /// Appends an argument to a command line.
-pub(crate) fn push_arg(
-    alloc: Global,
-    args: &mut Vec<String>,
-    arg: &str,
-) -> Result<(), AllocError> {
+pub(crate) fn push_arg(alloc: Global, args: &mut Vec<String>, arg: &str) -> Result<(), AllocError> {
     args.push(String::from_str(alloc, arg)?)?;
     Ok(())
 }

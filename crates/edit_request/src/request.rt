@@ -3,7 +3,7 @@
 use crate::error::{RequestError, malformed_error};
 use crate::files::{RequestFile, files_at, index_path, lock_path, metadata_path, root_of};
 use crate::members::{Members, check_keys, object_at, text_at, value_at};
-use crate::options::{push_options, push_pair, push_arg};
+use crate::options::{push_arg, push_options, push_pair};
 use edit_store::MemoryStore;
 use serde_json::Value;
 use std::alloc::Global;

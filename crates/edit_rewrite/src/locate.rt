@@ -157,7 +157,14 @@ impl SearchState {
             (prefix_after s.earlier s.prefix s.statement) self.new) }
         ensures error { IfErr result IsMemory }
     {
-        let (named, front) = follow_key(alloc, text, place, tokens, PathMatch::On(0), &self.counts)?;
+        let (named, front) = follow_key(
+            alloc,
+            text,
+            place,
+            tokens,
+            PathMatch::On(0),
+            &self.counts,
+        )?;
         self.prefix = named;
         Ok(offsets.entry(
             is_at(named, place),
@@ -184,7 +191,14 @@ impl SearchState {
             (prefix_after s.earlier s.prefix s.statement) self.new) }
         ensures error { IfErr result IsMemory }
     {
-        let (named, front) = follow_key(alloc, text, place, tokens, PathMatch::On(0), &self.counts)?;
+        let (named, front) = follow_key(
+            alloc,
+            text,
+            place,
+            tokens,
+            PathMatch::On(0),
+            &self.counts,
+        )?;
         let element = step_by_index(named, place, count_on(named, &self.counts));
         count_more(&mut self.counts, named)?;
         self.prefix = element;

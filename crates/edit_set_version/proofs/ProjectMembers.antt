@@ -21,12 +21,12 @@ inputs_of cs = map (λ (c : Crate). c.input.now) cs
 
 -- the packages of crates, as the metadata have them
 abbrev pub packages_of : List Crate → List PackageModel
-packages_of cs = map (λ (c : Crate). package_view c.package.now) cs
+packages_of cs = map (λ (c : Crate). package_view c.package_info.now) cs
 
 -- crates whose inputs are made of their manifests, and whose manifests are read of these, are the members of
 -- their packages
 pub members_stand : (options : RustOptions) (all : List Input) (cs : List Crate)
-    → AllZip (IsInputOf options) (map (λ (c : Crate). manifest_of (package_view c.package.now)) cs) (inputs_of cs)
+    → AllZip (IsInputOf options) (map (λ (c : Crate). manifest_of (package_view c.package_info.now)) cs) (inputs_of cs)
     → AllZip IsReadOf (inputs_of cs) (map (λ (c : Crate). c.manifest.now) cs)
     → ((i : Input) → Contains (inputs_of cs) i → Contains all i)
     → AllZip (IsMemberOf all) (packages_of cs) (members_of cs)
@@ -80,19 +80,19 @@ dropped (x ∷ before) own = dropped before own
 
 -- the manifests of crates, as the metadata have them
 package_manifests : (cs : List Crate)
-    → map (λ (c : Crate). manifest_of (package_view c.package.now)) cs ≡ map manifest_of (packages_of cs)
+    → map (λ (c : Crate). manifest_of (package_view c.package_info.now)) cs ≡ map manifest_of (packages_of cs)
 package_manifests [] = refl
-package_manifests (c ∷ cs) = ap (λ ms. manifest_of (package_view c.package.now) ∷ ms) (package_manifests cs)
+package_manifests (c ∷ cs) = ap (λ ms. manifest_of (package_view c.package_info.now) ∷ ms) (package_manifests cs)
 
 -- the packages of crates, one by one
 pub read_item : (cs : List Crate) (ps : List (Bor Package))
-    → map (λ (c : Crate). c.package.now) cs ≡ map (λ p. p.now) ps
+    → map (λ (c : Crate). c.package_info.now) cs ≡ map (λ p. p.now) ps
     → packages_of cs ≡ map (λ (p : Bor Package). package_view p.now) ps
 read_item cs ps same = of_crates cs ∙ ap (map package_view) same ∙ of_packages ps
   where
-    of_crates : (xs : List Crate) → packages_of xs ≡ map package_view (map (λ (c : Crate). c.package.now) xs)
+    of_crates : (xs : List Crate) → packages_of xs ≡ map package_view (map (λ (c : Crate). c.package_info.now) xs)
     of_crates [] = refl
-    of_crates (x ∷ xs) = ap (λ ys. package_view x.package.now ∷ ys) (of_crates xs)
+    of_crates (x ∷ xs) = ap (λ ys. package_view x.package_info.now ∷ ys) (of_crates xs)
 
     of_packages : (xs : List (Bor Package))
         → map package_view (map (λ (p : Bor Package). p.now) xs)
@@ -115,13 +115,13 @@ pub members_last : (w : WorkspaceModel) (is : List Input) (ms : List Manifest) (
     → packages_of cs ≡ members w.packages
     → inputs_of cs ≡ drop n is → map (λ (c : Crate). c.manifest.now) cs ≡ drop n ms
     → AllZip (IsMemberOf is) (members w.packages) (members_of cs)
-members_last w is ms cs n last read long package ins mans =
+members_last w is ms cs n last read long package_info ins mans =
     let own : inputs_of cs ≡ last.own
     = ins ∙ ap (λ k. drop k is) long ∙ ap (drop (length last.before)) last.all
     ∙ dropped last.before last.own in
-    let named : map (λ (c : Crate). manifest_of (package_view c.package.now)) cs ≡ member_manifests w.packages
-    = package_manifests cs ∙ ap (map manifest_of) package in
-    subst (λ ps. AllZip (IsMemberOf is) ps (members_of cs)) package
+    let named : map (λ (c : Crate). manifest_of (package_view c.package_info.now)) cs ≡ member_manifests w.packages
+    = package_manifests cs ∙ ap (map manifest_of) package_info in
+    subst (λ ps. AllZip (IsMemberOf is) ps (members_of cs)) package_info
     (members_stand last.options is cs
     (subst (λ xs. AllZip (IsInputOf last.options) xs (inputs_of cs)) (sym named)
     (subst (AllZip (IsInputOf last.options) (member_manifests w.packages)) (sym own) last.made))

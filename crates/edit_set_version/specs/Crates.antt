@@ -15,8 +15,8 @@ use Rattle.edit_set_version.specs.declared.project.ProjectRead.{ProjectRead}
 -- a crate of the program, as a member
 abbrev pub member_of : Crate → Member
 member_of c = record {
-  name = string_bytes c.package.now.name;
-  version = parts_of c.package.now.version;
+  name = string_bytes c.package_info.now.name;
+  version = parts_of c.package_info.now.version;
   path = string_bytes c.input.now.path;
   tree = tree_of c.manifest.now.document;
 }

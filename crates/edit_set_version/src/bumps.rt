@@ -61,7 +61,7 @@ fn bump_of<'a>(
         (member_of found.entry).version) }
 {
     let metadata = metadata_of(selection);
-    let next = target.bump(alloc, &found.package.version, metadata)?;
+    let next = target.bump(alloc, &found.package_info.version, metadata)?;
     match next {
         Some(next) => {
             has_numbers(&next);

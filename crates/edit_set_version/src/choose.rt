@@ -52,7 +52,7 @@ fn selected_names_of(alloc: Global, selection: &Selection) -> Result<SelectedNam
 fn is_selected_by(wanted: &SelectedNames, found: Crate<'_>) -> bool
     ensures { result ≡ is_selected_by wanted.now (member_of found.entry) }
 {
-    let named = wanted.names.contains(found.package.name.as_str());
+    let named = wanted.names.contains(found.package_info.name.as_str());
     if wanted.all { !named } else { named }
 }
 
@@ -104,7 +104,7 @@ fn member_names_text(alloc: Global, crates: &[Crate<'_>]) -> Result<String, Allo
 {
     let mut names = Vec::new(alloc);
     'crates: for found in crates {
-        names.push(found.package.name.as_str())?;
+        names.push(found.package_info.name.as_str())?;
     }
     names.as_slice().join(alloc, ", ")
 }
@@ -121,7 +121,7 @@ fn excluded_among<'a>(
     let excluded = name_set(alloc, &selection.exclude)?;
     let mut list = Vec::new(alloc);
     'crates: for found in crates {
-        let keep = excluded.contains(found.package.name.as_str());
+        let keep = excluded.contains(found.package_info.name.as_str());
         push_where(keep, *found, &mut list)?;
     }
     Ok(list)

@@ -14,7 +14,7 @@ use std::alloc::{AllocError, Global};
 /// A member of a workspace: its package in the metadata, its input, and its parsed manifest.
 #[derive(Clone, Copy)]
 pub(crate) struct Crate<'a> {
-    pub(crate) package: &'a Package,
+    pub(crate) package_info: &'a Package,
     pub(crate) input: &'a Input,
     pub(crate) manifest: &'a Manifest,
 }
@@ -63,7 +63,7 @@ pub(crate) fn crates_with<'a>(
 ) -> Result<Vec<Crate<'a>>, AllocError>
     requires inputs { length inputs.now ≡ length members.now }
     requires manifests { length manifests.now ≡ length members.now }
-    ensures outcome { IfOk result (λ cs. map (λ c. c.package.now) cs.items
+    ensures outcome { IfOk result (λ cs. map (λ c. c.package_info.now) cs.items
         ≡ map (λ p. p.now) members.entry.now) }
     ensures inputs { IfOk result (λ cs. map (λ c. c.input.now) cs.items ≡ inputs.entry.now) }
     ensures manifests { IfOk result (λ cs. map (λ c. c.manifest.now) cs.items ≡ manifests.entry.now) }
@@ -71,7 +71,7 @@ pub(crate) fn crates_with<'a>(
     let mut crates = Vec::with_capacity(alloc, members.len())?;
     'members: for i in 0..members.len() {
         let found = Crate {
-            package: members[i],
+            package_info: members[i],
             input: &inputs[i],
             manifest: &manifests[i],
         };
@@ -89,7 +89,7 @@ fn crates_last<'a>(
 ) -> Result<Vec<Crate<'a>>, AllocError>
     requires inputs { length members.now ≤ length inputs.now }
     requires manifests { length manifests.now ≡ length inputs.now }
-    ensures outcome { IfOk result (λ cs. map (λ c. c.package.now) cs.items
+    ensures outcome { IfOk result (λ cs. map (λ c. c.package_info.now) cs.items
         ≡ map (λ p. p.now) members.entry.now) }
     ensures inputs { IfOk result (λ cs. map (λ c. c.input.now) cs.items
         ≡ drop (length inputs.entry.now - length members.entry.now) inputs.entry.now) }

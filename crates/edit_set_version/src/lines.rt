@@ -58,9 +58,15 @@ pub(crate) fn bump_line(alloc: Global, bump: &Bump<'_>) -> Result<Line, AllocErr
     ensures ok { IfOk result (λ l. report_line_view l ≡ upgrading_line (bump_view bump.now).member.name
         (bump_view bump.now).member.version (bump_view bump.now).next (note_of (bump_view bump.now).member)) }
 {
-    let name = bump.member.package.name.as_str();
+    let name = bump.member.package_info.name.as_str();
     let note = note_of(bump.member.manifest.version_is_inherited());
-    upgrading_line(alloc, name, &bump.member.package.version, &bump.next, note)
+    upgrading_line(
+        alloc,
+        name,
+        &bump.member.package_info.version,
+        &bump.next,
+        note,
+    )
 }
 
 /// The line of the workspace's bump.

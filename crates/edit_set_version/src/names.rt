@@ -46,8 +46,8 @@ fn member_names(alloc: Global, packages: &[Package]) -> Result<Names, AllocError
         → contains_text s q ≡ is_among (names_of (packages_view packages.now)) q) }
 {
     let mut names = BTreeSet::new(alloc);
-    'packages: for package in packages {
-        add_member(alloc, &mut names, package)?;
+    'packages: for package_info in packages {
+        add_member(alloc, &mut names, package_info)?;
     }
     Ok(names)
 }

@@ -69,7 +69,7 @@ fn push_member(
     push_manifest(
         alloc,
         numbers,
-        found.package.name.as_str(),
+        found.package_info.name.as_str(),
         found.input,
         found.manifest,
         lists,

@@ -97,9 +97,9 @@ replaced_lines write edits earlier prefix (more_lines (full_line a s b c) e ls) 
 -- the syntax tree of a text with the value at each place of the edits replaced, as written by `Writer`
 abbrev pub replaced_by : Writer → Edits → Text → Text
 replaced_by write edits t = record {
-    has_byte_order_mark = t.has_byte_order_mark;
-    lines = replaced_lines write edits [] [] t.lines
-  }
+  has_byte_order_mark = t.has_byte_order_mark;
+  lines = replaced_lines write edits [] [] t.lines;
+}
 
 -- the syntax tree of a text with the value at each place of the edits replaced by a string literal
 abbrev pub replaced : Edits → Text → Text

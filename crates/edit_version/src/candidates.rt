@@ -46,7 +46,10 @@ pub fn is_for(minimum: Option<RustVersion>, given: Option<RustVersion>) -> bool
 }
 
 /// The Rust version that an entry requires, none where it names none or what is no Rust version.
-fn minimum_rust_version(alloc: Global, index_entry: &IndexVersion) -> CargoResult<Option<RustVersion>>
+fn minimum_rust_version(
+    alloc: Global,
+    index_entry: &IndexVersion,
+) -> CargoResult<Option<RustVersion>>
     ensures ok { IfOk result (λ o. option_map numbers_of o ≡ minimum_rust (entry_of index_entry.now)) }
     ensures error { IfErr result IsMemory }
 {
@@ -123,7 +126,14 @@ pub fn greatest_entry<'a>(
 {
     let mut best: Option<Found> = None;
     'entries: for index_entry in versions {
-        best = with_next_entry(alloc, best, index_entry, allow_prerelease, req, rust_version)?;
+        best = with_next_entry(
+            alloc,
+            best,
+            index_entry,
+            allow_prerelease,
+            req,
+            rust_version,
+        )?;
     }
     match best {
         Some(found) => Ok(Some(found.index_entry)),
@@ -181,7 +191,13 @@ fn with_next_entry<'a>(
 {
     let qualifying = qualifying_version(alloc, index_entry, allow_prerelease, req, rust_version)?;
     match qualifying {
-        Some(version) => Ok(Some(later_entry(best, Found { index_entry, version }))),
+        Some(version) => Ok(Some(later_entry(
+            best,
+            Found {
+                index_entry,
+                version,
+            },
+        ))),
         None => Ok(best),
     }
 }

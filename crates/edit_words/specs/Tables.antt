@@ -37,7 +37,7 @@ abbrev pub arg_rule : ArgSpec → Rule
 arg_rule arg_spec =
     record (form_rule arg_spec.form arg_spec.id.now) {
       short = arg_spec.letter;
-      defaults = default_list arg_spec.default
+      defaults = default_list arg_spec.default;
     }
 
 -- the command is this one, and none of its arguments is global

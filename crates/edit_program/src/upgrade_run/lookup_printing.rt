@@ -68,13 +68,7 @@ pub fn print_lookups<S: Store, O: io::Write>(
     // over any store, an error of the device is counted
     ensures counted { IfErr result (λ r. CountsFault (S.view files.old) (S.view files.new) r.error) }
 {
-    let sources = read_sources(
-        alloc,
-        &args.to_lookup_request(),
-        current,
-        cargo_home,
-        files,
-    )?;
+    let sources = read_sources(alloc, &args.to_lookup_request(), current, cargo_home, files)?;
     let Sources {
         target,
         configs,

@@ -1,5 +1,5 @@
 //! Tests of the versions in manifests, by calls that no program makes.
-use crate::assertion_helpers::{error_number_and_text, push, text, unwrap_ok, success_or_error};
+use crate::assertion_helpers::{error_number_and_text, push, success_or_error, text, unwrap_ok};
 use crate::rows::{TILDES, check_rows};
 use edit_document::{Document, Place, Step};
 use edit_manifest::{Manifest, get_dep_version, set_dep_version};
@@ -47,7 +47,13 @@ fn version_of(rt: &impl Abort, alloc: Global, row_text: &str) -> Version {
 }
 
 /// Sets a version, of the package or of the workspace, or a requirement, and returns the result.
-fn set(rt: &impl Abort, alloc: Global, manifest: &mut Manifest, keyword: &str, rest: &str) -> String {
+fn set(
+    rt: &impl Abort,
+    alloc: Global,
+    manifest: &mut Manifest,
+    keyword: &str,
+    rest: &str,
+) -> String {
     if keyword == "require" {
         return require(rt, alloc, &mut manifest.document, rest);
     }

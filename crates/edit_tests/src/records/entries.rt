@@ -37,7 +37,12 @@ fn select_compatible(rt: &impl Abort, alloc: Global, entries: &[IndexVersion]) -
 }
 
 /// The version that is selected where an entry is the only one.
-fn select_from_one(rt: &impl Abort, alloc: Global, call: &str, index_entry: IndexVersion) -> String {
+fn select_from_one(
+    rt: &impl Abort,
+    alloc: Global,
+    call: &str,
+    index_entry: IndexVersion,
+) -> String {
     let mut entries = Vec::new(alloc);
     push(rt, &mut entries, index_entry);
     match call {

@@ -1,7 +1,9 @@
 //! Rows of entries that come to say what a record says: the manifest that is left, the manifest, and the
 //! record, its parts between semicolons. Lines end with `@`; a manifest without a header is one of entries.
 use super::written_rows::record;
-use crate::assertion_helpers::{push, text, unfold_lines, unwrap_alloc, unwrap_ok, success_or_error};
+use crate::assertion_helpers::{
+    push, success_or_error, text, unfold_lines, unwrap_alloc, unwrap_ok,
+};
 use crate::rows::{LINES, check_rows};
 use edit_base::CargoResult;
 use edit_document::{Document, Place, Step};

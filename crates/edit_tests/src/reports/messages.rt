@@ -55,11 +55,7 @@ fn end_by(call: &str) -> CliError {
 /// The exit status of that error, and whether it has a message.
 fn status(rt: &impl Abort, alloc: Global, call: &str, _rest: &str) -> String {
     let end = end_by(call);
-    let outcome = if end.error.is_some() {
-        "error"
-    } else {
-        "none"
-    };
+    let outcome = if end.error.is_some() { "error" } else { "none" };
     unwrap_alloc(rt, format!(in alloc; "{} {outcome}", end.exit_code))
 }
 

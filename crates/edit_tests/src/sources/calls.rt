@@ -1,7 +1,7 @@
 //! Calls of an index and of its cache, as texts.
 use super::index_texts::entries;
 use crate::assertion_helpers::{
-    check_result, error_number_and_text, text, unwrap_alloc, success_or_error,
+    check_result, error_number_and_text, success_or_error, text, unwrap_alloc,
 };
 use crate::records::parts::choice_text;
 use crate::rows::field;

@@ -1,6 +1,6 @@
 //! Calls of a store, as texts.
 use crate::assertion_helpers::{
-    check_result, error_number_and_text, text, unwrap_alloc, success_or_error,
+    check_result, error_number_and_text, success_or_error, text, unwrap_alloc,
 };
 use crate::rows::field;
 use edit_store::{Kind, Store};

@@ -1,6 +1,6 @@
 //! Tests of reading the manifests of a workspace where the device fails. The others are in
 //! `tests/cases/upgrade/workspace_manifests.toml`.
-use crate::assertion_helpers::{unwrap_alloc, unwrap_ok, success_or_error};
+use crate::assertion_helpers::{success_or_error, unwrap_alloc, unwrap_ok};
 use crate::rows::{TILDES, check_rows};
 use edit_metadata::{Workspace, workspace_inputs};
 use edit_store::{FaultStore, MemoryStore, Store};

@@ -61,11 +61,7 @@ fn package_spec_arg(alloc: Global, krate: &Package) -> Result<String, AllocError
 }
 
 /// Appends the arguments that name a package.
-pub(crate) fn add_package(
-    alloc: Global,
-    args: &mut Call,
-    krate: &Package,
-) -> Result<(), AllocError>
+pub(crate) fn add_package(alloc: Global, args: &mut Call, krate: &Package) -> Result<(), AllocError>
     ensures { OnOk result (args_view args.new.items
         ≡ args_view args.old.items ++ package_args (package_view krate.now)) }
 {

@@ -7,13 +7,13 @@ pub members-preserved : goal.members-preserved
 members-preserved c =
     let i = c.members.i in
     let was = c.members.crates.items in
-    let package = c.index-members-i.result in
+    let package_info = c.index-members-i.result in
     let input = c.index-inputs-i.result in
     let manifest = c.index-manifests-i.result in
     let within : i < length c.args.members.now = c.members-test.true in
     record {
-      package = pushed_more (λ c. c.package.now) (λ p. p.now) was _ _ c.args.members.now i package
-          c.in_ok-push.ensures.items c.members.invariant.package within c.index-members-i.is refl;
+      package_info = pushed_more (λ c. c.package_info.now) (λ p. p.now) was _ _ c.args.members.now i package_info
+          c.in_ok-push.ensures.items c.members.invariant.package_info within c.index-members-i.is refl;
       inputs = pushed_next (λ c. c.input.now) was _ _ c.args.inputs.now i c.in_ok-push.ensures.items
           c.members.invariant.inputs (omega (arith, within, c.requires.inputs)) c.index-inputs-i.is;
       manifests = pushed_next (λ c. c.manifest.now) was _ _ c.args.manifests.now i
@@ -23,7 +23,7 @@ members-preserved c =
 
 pub returns-clause-outcome : goal.returns-clause-outcome
 returns-clause-outcome c =
-    c.members.invariant.package
+    c.members.invariant.package_info
     ∙ ap (map (λ p. p.now)) (take_all c.members.i c.args.members.now c.members-test.false)
 
 pub returns-clause-inputs : goal.returns-clause-inputs

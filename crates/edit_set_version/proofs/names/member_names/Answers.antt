@@ -10,11 +10,11 @@ use Rattle.edit_set_version.proofs.names.member_names.Goals as goal
 
 pub packages-preserved : goal.packages-preserved
 packages-preserved c = λ q.
-    let i = c.packages.package-index in
+    let i = c.packages.package_info-index in
     let old = names_of (packages_view (take i c.args.packages.now)) in
-    let own = names_of (package_view c.package-item.result ∷ []) in
+    let own = names_of (package_view c.package_info-item.result ∷ []) in
     c.in_ok-add_member.ensures.ok q
     ∙ ap (λ b. b || is_among own q) (c.packages.invariant q)
     ∙ sym (list_any-append (same_bytes q) old own)
     ∙ ap (λ (xs : List (List ℕ)). is_among xs q)
-    (sym (names_more c.args.packages.now i c.package-item.result c.packages-test.true c.package-item.is))
+    (sym (names_more c.args.packages.now i c.package_info-item.result c.packages-test.true c.package_info-item.is))

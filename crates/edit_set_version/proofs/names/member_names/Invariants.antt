@@ -7,4 +7,4 @@ use Rattle.edit_set_version.proofs.names.member_names.Given as goal
 
 abbrev pub invariant-packages : goal.invariant-packages
 invariant-packages l = (q : List ℕ) → contains_text l.names q
-    ≡ is_among (names_of (packages_view (take l.package-index l.packages))) q
+    ≡ is_among (names_of (packages_view (take l.package_info-index l.packages))) q
