@@ -14,15 +14,15 @@ use Rattle.edit_cache.specs.declared.registry_answers.NamedAnswer.{NamedAnswer}
 
 -- the result of the index
 abbrev pub result : Option CachedAnswer → Option (Option IndexKrate)
-result kept = option_map (λ k. k.answer) kept
+result cached = option_map (λ k. k.answer) cached
 
 -- the ranking
 abbrev pub ranking : Option CachedAnswer → Option Ranked
-ranking kept = option_and_then (λ k. k.ranked) kept
+ranking cached = option_and_then (λ k. k.ranked) cached
 
 -- the result is ranked
 abbrev pub AreRanked : Option CachedAnswer → Type 0
-AreRanked kept = IsRankedAt (result kept) (ranking kept)
+AreRanked cached = IsRankedAt (result cached) (ranking cached)
 
 -- texts that differ are told apart
 pub apart : (a b : List ℕ) → b ≢ a → bytes_eq a b ≡ false
@@ -38,25 +38,25 @@ other-same None a b name same = same
 other-same (Some last) a b name same = elim (cases_Bool (bytes_eq (string_bytes last.name) name)) [
   | inl e ↦
       subst (λ (t : Bool).
-      result (if t then Some last.kept else a) ≡ result (if t then Some last.kept else b)) (sym e) refl
+      result (if t then Some last.cached else a) ≡ result (if t then Some last.cached else b)) (sym e) refl
   | inr e ↦
       subst (λ (t : Bool).
-      result (if t then Some last.kept else a) ≡ result (if t then Some last.kept else b)) (sym e) same
+      result (if t then Some last.cached else a) ≡ result (if t then Some last.cached else b)) (sym e) same
 ]
 
 -- the result beside the map is the result for its crate
 pub last-first : (last : Option NamedAnswer) (other : Option CachedAnswer) (name : List ℕ)
-    → has_last last name ≡ true → option_map (λ l. l.kept) last ≡ first_for last other name
+    → has_last last name ≡ true → option_map (λ l. l.cached) last ≡ first_for last other name
 last-first None other name e = cc e
 last-first (Some last) other name e =
-    subst (λ (t : Bool). Some last.kept ≡ (if t then Some last.kept else other)) (sym e) refl
+    subst (λ (t : Bool). Some last.cached ≡ (if t then Some last.cached else other)) (sym e) refl
 
 -- a result beside the map for another crate leaves the one in the map
 pub other-first : (last : Option NamedAnswer) (other : Option CachedAnswer) (name : List ℕ)
     → has_last last name ≡ false → other ≡ first_for last other name
 other-first None other name e = refl
 other-first (Some last) other name e =
-    subst (λ (t : Bool). other ≡ (if t then Some last.kept else other)) (sym e) refl
+    subst (λ (t : Bool). other ≡ (if t then Some last.cached else other)) (sym e) refl
 
 -- the name of what stands beside the map
 abbrev named : Option (List ℕ × Option IndexKrate) → List ℕ
@@ -102,7 +102,7 @@ apart-first (Some last) other at name e ne =
 -- the result beside the map is ranked, and so is the result for its crate
 pub ranked-last : (last : Option NamedAnswer) (other : Option CachedAnswer) (name : List ℕ)
     → has_last last name ≡ true
-    → IsRankedAt (option_map (λ l. l.kept.answer) last) (option_and_then (λ l. l.kept.ranked) last)
+    → IsRankedAt (option_map (λ l. l.cached.answer) last) (option_and_then (λ l. l.cached.ranked) last)
     → AreRanked (first_for last other name)
 ranked-last None other name e h = cc e
 ranked-last (Some last) other name e h = subst AreRanked (last-first (Some last) other name e) h
@@ -114,20 +114,20 @@ ranked-other last other name e h = subst AreRanked (other-first last other name 
 
 -- a result that moves into the map stays the result for its crate
 pub moved : (last : Option NamedAnswer) (l : NamedAnswer) (old new : Option CachedAnswer) (name : List ℕ)
-    → last ≡ Some l → new ≡ (if bytes_eq (string_bytes l.name) name then Some l.kept else old)
+    → last ≡ Some l → new ≡ (if bytes_eq (string_bytes l.name) name then Some l.cached else old)
     → new ≡ first_for last old name
 moved last l old new name e h = subst (λ (x : Option NamedAnswer). new ≡ first_for x old name) (sym e) h
 
 -- the result that is added is the one for its crate
-pub added : (n name : List ℕ) (kept : CachedAnswer) (other : Option CachedAnswer) → n ≡ name
-    → (if bytes_eq n name then Some kept else other) ≡ Some kept
-added n name kept other e =
-    subst (λ (t : Bool). (if t then Some kept else other) ≡ Some kept)
+pub added : (n name : List ℕ) (cached : CachedAnswer) (other : Option CachedAnswer) → n ≡ name
+    → (if bytes_eq n name then Some cached else other) ≡ Some cached
+added n name cached other e =
+    subst (λ (t : Bool). (if t then Some cached else other) ≡ Some cached)
     (sym (ap (λ (x : List ℕ). bytes_eq x name) e ∙ nat_list_eq_equiv.refl name)) refl
 
 -- the result that is added changes that of no other crate
-pub not-added : (n name other-name : List ℕ) (kept : CachedAnswer) (other : Option CachedAnswer) → n ≡ name
-    → other-name ≢ name → (if bytes_eq n other-name then Some kept else other) ≡ other
-not-added n name other-name kept other e ne =
-    subst (λ (t : Bool). (if t then Some kept else other) ≡ other)
+pub not-added : (n name other-name : List ℕ) (cached : CachedAnswer) (other : Option CachedAnswer) → n ≡ name
+    → other-name ≢ name → (if bytes_eq n other-name then Some cached else other) ≡ other
+not-added n name other-name cached other e ne =
+    subst (λ (t : Bool). (if t then Some cached else other) ≡ other)
     (sym (apart n other-name (λ same. ne (same ∙ e)))) refl

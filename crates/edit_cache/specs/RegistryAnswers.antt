@@ -17,7 +17,7 @@ has_last (Some last) name = bytes_eq (string_bytes last.name) name
 abbrev pub first_for : Option NamedAnswer → Option CachedAnswer → List ℕ → Option CachedAnswer
 first_for None other name = other
 first_for (Some last) other name =
-    if bytes_eq (string_bytes last.name) name then Some last.kept else other
+    if bytes_eq (string_bytes last.name) name then Some last.cached else other
 
 -- the result for a crate, if there is one (own)
 unfoldable pub result_in : RegistryAnswers → List ℕ → Option CachedAnswer
@@ -25,12 +25,12 @@ result_in answers name = first_for answers.last (get_by_text answers.others name
 
 -- the result of the index for a crate, if there is one (own)
 abbrev pub result_of : RegistryAnswers → List ℕ → Option (Option IndexKrate)
-result_of answers name = option_map (λ kept. kept.answer) (result_in answers name)
+result_of answers name = option_map (λ cached. cached.answer) (result_in answers name)
 
 -- the ranking for a crate, if there is one (own)
 abbrev pub ranking_of : RegistryAnswers → List ℕ → Option Ranked
-ranking_of answers name = option_and_then (λ kept. kept.ranked) (result_in answers name)
+ranking_of answers name = option_and_then (λ cached. cached.ranked) (result_in answers name)
 
 -- the name and the result of the index that stand beside the map (own)
 abbrev pub last_result : Option NamedAnswer → Option (List ℕ × Option IndexKrate)
-last_result last = option_map (λ l. (string_bytes l.name, l.kept.answer)) last
+last_result last = option_map (λ l. (string_bytes l.name, l.cached.answer)) last

@@ -14,7 +14,7 @@ use std::collections::BTreeMap;
 #[derive(Debug, Drop)]
 pub struct NamedAnswer {
     name: String,
-    kept: CachedAnswer,
+    cached: CachedAnswer,
 }
 
 /// The cached results for the crates of a registry, by name.
@@ -50,10 +50,10 @@ impl RegistryAnswers {
 
     /// The result that was added last.
     fn last_answer(&self) -> Option<&CachedAnswer>
-        ensures { option_copied result ≡ option_map (λ last. last.kept) self.now.last }
+        ensures { option_copied result ≡ option_map (λ last. last.cached) self.now.last }
     {
         match &self.last {
-            Some(last) => Some(&last.kept),
+            Some(last) => Some(&last.cached),
             None => None,
         }
     }
@@ -73,14 +73,14 @@ impl RegistryAnswers {
         ensures same { (name : List ℕ) → result_in self.new name ≡ result_in self.old name }
         ensures ok { OnOk result (self.new.last ≡ None) }
     {
-        let Some(NamedAnswer { name, kept }) = self.last.take() else {
+        let Some(NamedAnswer { name, cached }) = self.last.take() else {
             return Ok(());
         };
-        match self.others.insert(name, kept) {
+        match self.others.insert(name, cached) {
             Ok(_) => Ok(()),
             Err(failed) => {
-                let (name, kept) = failed.value;
-                self.last = Some(NamedAnswer { name, kept });
+                let (name, cached) = failed.value;
+                self.last = Some(NamedAnswer { name, cached });
                 Err(AllocError)
             }
         }
@@ -91,9 +91,9 @@ impl RegistryAnswers {
         &mut self,
         alloc: Global,
         name: &str,
-        kept: CachedAnswer,
+        cached: CachedAnswer,
     ) -> Result<(), AllocError>
-        ensures added { OnOk result (result_in self.new name.now ≡ Some kept) }
+        ensures added { OnOk result (result_in self.new name.now ≡ Some cached) }
         ensures others { (other : List ℕ) → other ≢ name.now
             → result_in self.new other ≡ result_in self.old other }
         ensures error { OnErr result
@@ -101,7 +101,7 @@ impl RegistryAnswers {
     {
         let name = String::from_str(alloc, name)?;
         self.store_last()?;
-        self.last = Some(NamedAnswer { name, kept });
+        self.last = Some(NamedAnswer { name, cached });
         Ok(())
     }
 
@@ -121,12 +121,12 @@ impl RegistryAnswers {
     fn rank_last(&mut self, alloc: Global) -> CargoResult<()>
         ensures map { self.new.others ≡ self.old.others }
         ensures same { last_result self.new.last ≡ last_result self.old.last }
-        ensures ranked { OnOk result (IsRankedAt (option_map (λ last. last.kept.answer) self.new.last)
-            (option_and_then (λ last. last.kept.ranked) self.new.last)) }
+        ensures ranked { OnOk result (IsRankedAt (option_map (λ last. last.cached.answer) self.new.last)
+            (option_and_then (λ last. last.cached.ranked) self.new.last)) }
         ensures error { IfErr result IsMemory }
     {
         match &mut self.last {
-            Some(last) => last.kept.rank(alloc),
+            Some(last) => last.cached.rank(alloc),
             None => Ok(()),
         }
     }
@@ -142,7 +142,7 @@ impl RegistryAnswers {
             return self.rank_last(alloc);
         }
         match self.others.get_mut(name) {
-            Some(kept) => kept.rank(alloc),
+            Some(cached) => cached.rank(alloc),
             None => Ok(()),
         }
     }
@@ -157,12 +157,12 @@ impl RegistryAnswers {
     ) -> CargoResult<()>
         ensures map { self.new.others ≡ self.old.others }
         ensures same { last_result self.new.last ≡ last_result self.old.last }
-        ensures ranked { OnOk result (IsRankedAt (option_map (λ last. last.kept.answer) self.new.last)
-            (option_and_then (λ last. last.kept.ranked) self.new.last)) }
+        ensures ranked { OnOk result (IsRankedAt (option_map (λ last. last.cached.answer) self.new.last)
+            (option_and_then (λ last. last.cached.ranked) self.new.last)) }
         ensures error { IfErr result IsMemory }
     {
         match &mut self.last {
-            Some(last) => last.kept.rank_for(alloc, old, rust_version),
+            Some(last) => last.cached.rank_for(alloc, old, rust_version),
             None => Ok(()),
         }
     }
@@ -184,7 +184,7 @@ impl RegistryAnswers {
             return self.rank_last_for(alloc, old, rust_version);
         }
         match self.others.get_mut(name) {
-            Some(kept) => kept.rank_for(alloc, old, rust_version),
+            Some(cached) => cached.rank_for(alloc, old, rust_version),
             None => Ok(()),
         }
     }

@@ -32,4 +32,4 @@ unfolding result_in
 returns-else-has_last-clause-others c = λ other ne.
     let same : get_by_text c.remove.new.self other ≡ get_by_text c.args.self.now.others other =
     grind (arith, text_keys) in
-    ap (λ kept. first_for c.args.self.now.last kept other) same
+    ap (λ cached. first_for c.args.self.now.last cached other) same

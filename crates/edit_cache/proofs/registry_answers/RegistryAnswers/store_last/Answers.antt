@@ -14,7 +14,7 @@ returns-in-Ok-clause-same c = λ name.
     let old = get_by_text c.args.self.now.others name in
     let new = get_by_text c.insert.new.self name in
     let l = c.in-Some.field-0 in
-    let stored : new ≡ (if bytes_eq (string_bytes l.name) name then Some l.kept else old) =
+    let stored : new ≡ (if bytes_eq (string_bytes l.name) name then Some l.cached else old) =
     grind (arith, text_keys) in
     subst (λ (x : Option NamedAnswer). first_for x new name ≡ first_for c.args.self.now.last old name)
     (sym c.take.ensures.after)
@@ -25,10 +25,10 @@ unfolding result_in
 returns-clause-same c = λ name.
     let old = get_by_text c.args.self.now.others name in
     let new = get_by_text c.insert.new.self name in
-    let back : NamedAnswer = record { name = c.in-Err.failed.value.0; kept = c.in-Err.failed.value.1 } in
+    let back : NamedAnswer = record { name = c.in-Err.failed.value.0; cached = c.in-Err.failed.value.1 } in
     let same : new ≡ old = grind (arith, text_keys) in
     let is : back ≡ c.in-Some.field-0 =
-    ap (λ p. record { name = p.0; kept = p.1 }) c.in-Err.ensures.value_returned in
+    ap (λ p. record { name = p.0; cached = p.1 }) c.in-Err.ensures.value_returned in
     let was : c.args.self.now.last ≡ Some c.in-Some.field-0 = sym c.take.ensures.value ∙ c.in-Some.is in
     ap (λ o. first_for (Some back) o name) same
     ∙ ap (λ (x : Option NamedAnswer). first_for x old name) (ap (λ x. Some x) is ∙ sym was)
