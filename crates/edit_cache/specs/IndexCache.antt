@@ -9,6 +9,7 @@ use Rattle.edit_base.specs.Errors.{number_of, IsMemory}
 use Rattle.edit_sources.specs.Index.{IndexView, Outcomes, SameOutcomes, HasLookupCause, IsOutcomeError, answer_of}
 use Rattle.edit_sources.specs.declared.index.IndexKrate.{IndexKrate}
 use Rattle.edit_cache.specs.CachedAnswer.{IsRanked}
+use Rattle.edit_cache.specs.RegistryAnswers.{result_in}
 use Rattle.edit_cache.specs.declared.cache.IndexCache.{IndexCache}
 use Rattle.edit_cache.specs.declared.cached_result.CachedAnswer.{CachedAnswer}
 use Rattle.edit_cache.specs.declared.ranking.Ranked.{Ranked}
@@ -20,7 +21,7 @@ index_of cache = cache.index
 -- the cached result for an address and a name, with its ranking once that is made (own)
 abbrev pub cached_at : {I : Type 0} → IndexCache I → List ℕ → List ℕ → Option CachedAnswer
 cached_at cache address name =
-    option_and_then (λ names. get_by_text names name) (get_by_text cache.answers address)
+    option_and_then (λ answers. result_in answers name) (get_by_text cache.answers address)
 
 -- the cached result for an address and a name, if there is one (own)
 abbrev pub cached_answer_at : {I : Type 0} → IndexCache I → List ℕ → List ℕ → Option (Option IndexKrate)

@@ -11,6 +11,7 @@ mod choice_cache;
 
 use crate::cached_result::CachedAnswer;
 use crate::ranking::Ranked;
+use crate::registry_answers::RegistryAnswers;
 use edit_base::errors::CargoResult;
 use edit_sources::index::{Index, IndexKrate};
 use std::alloc::Global;
@@ -23,7 +24,7 @@ use url::Url;
 #[derive(Debug, Drop)]
 pub struct IndexCache<I> {
     index: I,
-    answers: BTreeMap<String, BTreeMap<String, CachedAnswer>>,
+    answers: BTreeMap<String, RegistryAnswers>,
 }
 
 impl<I: Index> IndexCache<I> {
@@ -101,15 +102,14 @@ impl<I: Index> IndexCache<I> {
         ensures error { OnErr result (HasSameCache self.old self.new) }
         ensures memory { IfErr result IsMemory }
     {
-        let key = String::from_str(alloc, name)?;
         let cached = CachedAnswer::new(answer);
         if let Some(names) = self.answers.get_mut(address) {
-            names.insert(key, cached)?;
+            names.insert(alloc, name, cached)?;
             return Ok(());
         }
         let address = String::from_str(alloc, address)?;
-        let mut names = BTreeMap::new(alloc);
-        names.insert(key, cached)?;
+        let mut names = RegistryAnswers::new(alloc);
+        names.insert(alloc, name, cached)?;
         self.answers.insert(address, names)?;
         Ok(())
     }
@@ -229,11 +229,8 @@ impl<I: Index> IndexCache<I> {
             (ranking_at self.new address.now name.now)) }
         ensures error { IfErr result IsMemory }
     {
-        let Some(names) = self.answers.get_mut(address) else {
-            return Ok(());
-        };
-        match names.get_mut(name) {
-            Some(cached) => cached.rank(alloc),
+        match self.answers.get_mut(address) {
+            Some(names) => names.rank(alloc, name),
             None => Ok(()),
         }
     }

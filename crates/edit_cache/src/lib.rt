@@ -6,6 +6,7 @@ mod cached_result;
 mod choices;
 mod rank;
 pub mod ranking;
+mod registry_answers;
 
 pub use cache::IndexCache;
 pub use ranking::Ranked;

@@ -47,11 +47,8 @@ impl<I: Index> IndexCache<I> {
             (ranking_at self.new address.now name.now)) }
         ensures error { IfErr result IsMemory }
     {
-        let Some(names) = self.answers.get_mut(address) else {
-            return Ok(());
-        };
-        match names.get_mut(name) {
-            Some(cached) => cached.rank_for(alloc, old, rust_version),
+        match self.answers.get_mut(address) {
+            Some(names) => names.rank_for(alloc, name, old, rust_version),
             None => Ok(()),
         }
     }

@@ -166,3 +166,34 @@ fn rankings_are_cached(rt: HostRuntime) {
         &[(FIVE, 9, OVER_FIVE), (NEXT, 9, OVER_NEXT)],
     );
 }
+
+/// Two paths, each with a line.
+const BOTH: &str = "\
+/idx/1/a|{\"name\":\"a\",\"vers\":\"1.0.0\"}@
+/idx/1/b|{\"name\":\"b\",\"vers\":\"2.0.0\"}@";
+
+/// The calls whose answers are cached.
+const OVER_BOTH: &str = "\
+one crate|fetch|a||done
+another|fetch|b||done";
+
+/// The calls when the index has no line any more.
+const AFTER_BOTH: &str = "\
+the last answer|shown|b||b 2.0.0.
+the answer before|shown|a||a 1.0.0.
+the last one ranked|ranked|b||2.0.0;
+the one before ranked|ranked|a||1.0.0;
+the one before forgotten|forget|a||done
+it is gone|shown|a||none
+the last one stays|shown|b||b 2.0.0.
+the last one forgotten|forget|b||done
+it is gone too|shown|b||none";
+
+#[test]
+fn answers_of_two_crates_stay(rt: HostRuntime) {
+    over_each(
+        &rt,
+        rt.alloc(),
+        &[(BOTH, 9, OVER_BOTH), ("", 9, AFTER_BOTH)],
+    );
+}
