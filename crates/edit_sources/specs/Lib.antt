@@ -13,3 +13,4 @@ pub mod Sources
 pub mod DirIndex
 pub mod Folders
 pub mod LineFields
+pub mod Published

@@ -24,7 +24,7 @@ fn is_blank_line(line: &[u8]) -> bool
 }
 
 /// The string of a JSON value, if it is one.
-fn text<'a>(value: Option<&'a Value>) -> Option<&'a str>
+pub(crate) fn text<'a>(value: Option<&'a Value>) -> Option<&'a str>
     ensures { option_map (λ s. s.now) result ≡ option_and_then as_str (optional_value_view value.entry) }
 {
     match value {
@@ -34,7 +34,7 @@ fn text<'a>(value: Option<&'a Value>) -> Option<&'a str>
 }
 
 /// Whether a version is yanked: false where the key is absent; `None` where it holds no boolean.
-fn yanked_flag(value: Option<&Value>) -> Option<bool>
+pub(crate) fn yanked_flag(value: Option<&Value>) -> Option<bool>
     ensures { result ≡ yanked_of (optional_value_view value.entry) }
 {
     match value {
@@ -45,7 +45,7 @@ fn yanked_flag(value: Option<&Value>) -> Option<bool>
 }
 
 /// The `rust_version` of a version: none where the key is absent or null; `None` where it holds no string.
-fn rust_version<'a>(value: Option<&'a Value>) -> Option<Option<&'a str>>
+pub(crate) fn rust_version<'a>(value: Option<&'a Value>) -> Option<Option<&'a str>>
     ensures { option_map (λ r. option_map (λ s. s.now) r) result
         ≡ rust_version_of (optional_value_view value.entry) }
 {
@@ -154,7 +154,7 @@ fn line_end(text: &[u8]) -> Option<usize>
 }
 
 /// Splits a text at its first line feed; the second part is `None` where there is no line feed.
-fn split_line(text: &[u8]) -> (&[u8], Option<&[u8]>)
+pub(crate) fn split_line(text: &[u8]) -> (&[u8], Option<&[u8]>)
     ensures lines { lines_of text.now ≡ result.0.now ∷ lines_left result.1 }
     ensures shorter { length_left result.1 ≤ length text.now }
 {

@@ -10,6 +10,7 @@ pub mod index_lines;
 mod index_path;
 mod line_reader;
 pub mod local_index;
+pub mod published;
 pub mod registry;
 
 pub use config::{Config, ConfigCache, ConfigSource};
@@ -17,3 +18,4 @@ pub use crate_name::is_crate_name;
 pub use file_index::FileIndex;
 pub use index::{Index, IndexKrate};
 pub use local_index::LocalIndex;
+pub use published::{PublishedBefore, retain_published};

@@ -1,0 +1,59 @@
+-- Index lines of versions that were published at or before a bound (Cargo reference, "Registries", pubtime).
+use Rattle.std.specs.Prelude.{ℕ, ℤ, List, [], ◌∷◌, Option, Some, None, option_and_then, Bool, false, not, codes, map, int_le, ◌&&◌, if◌then◌else◌}
+use Rattle.std.specs.List.{join_with_byte}
+use Rattle.std.specs.Option.{is_some, option_map_or}
+use Rattle.std.specs.Result.{result_ok}
+use Rattle.std.specs.Str.{is_utf8}
+use Rattle.jiff.specs.Words.{parse_timestamp}
+use Rattle.serde_json.specs.Data.{Data}
+use Rattle.serde_json.specs.Read.{read}
+use Rattle.serde_json.specs.Find.{get, as_str}
+use Rattle.edit_sources.specs.IndexLines.{lines_of, rust_version_of, yanked_of}
+use Rattle.edit_sources.specs.declared.published.PublishedBefore.{PublishedBefore}
+
+-- the nanoseconds from the Unix epoch to the instant of a text, if it has one: that of RFC 3339, section 5.6,
+-- and of what `jiff` accepts beyond it (RFC 9557)
+abbrev pub instant_of : List ℕ → Option ℤ
+instant_of text = result_ok (parse_timestamp text)
+
+-- the time at which a version was published, if it is known: that of the string `pubtime` (Cargo reference,
+-- "Registries", pubtime)
+abbrev pub publish_time : Data → Option ℤ
+publish_time d = option_and_then instant_of (option_and_then as_str (get (codes "pubtime") d))
+
+-- whether a time is known, and at or before the bound (own)
+abbrev pub is_by : PublishedBefore → Option ℤ → Bool
+is_by bound None = false
+is_by bound (Some time) = int_le time bound.nanosecond
+
+-- whether a JSON value has the members of an entry (Cargo reference, "Registries", name, vers)
+abbrev pub has_entry : Data → Bool
+has_entry d =
+    is_some (option_and_then as_str (get (codes "name") d))
+    && is_some (option_and_then as_str (get (codes "vers") d))
+    && is_some (yanked_of (get (codes "yanked") d))
+    && is_some (rust_version_of (get (codes "rust_version") d))
+
+-- whether a line is a valid line of an index (own)
+abbrev pub is_index_line : List ℕ → Bool
+is_index_line line = is_utf8 line && option_map_or has_entry (read line) false
+
+-- whether a line tells of a publication at or before the bound (own)
+abbrev pub is_published : PublishedBefore → List ℕ → Bool
+is_published bound line = option_map_or (λ d. is_by bound (publish_time d)) (read line) false
+
+-- whether a line is valid and does not tell of a publication at or before the bound (own)
+abbrev pub is_withheld : PublishedBefore → List ℕ → Bool
+is_withheld bound line = is_index_line line && not (is_published bound line)
+
+-- the line, or an empty one in its place if it is withheld (own)
+abbrev pub published_line : PublishedBefore → List ℕ → List ℕ
+published_line bound line = if is_withheld bound line then [] else line
+
+-- the text of an index in which each line of a version that was not published by the bound is empty (own)
+abbrev pub published_text : PublishedBefore → List ℕ → List ℕ
+published_text bound text = join_with_byte 10 (map (published_line bound) (lines_of text))
+
+-- the line feed that ends a line, if there are lines after it (own)
+abbrev pub line_end : Bool → List ℕ
+line_end has_more = if has_more then 10 ∷ [] else []

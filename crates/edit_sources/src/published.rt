@@ -1,0 +1,125 @@
+//! Index lines of versions that were published at or before a bound.
+ghost use Rattle.std.specs.Prelude.{◌≡◌, [], ◌++◌, IfErr, IfOk, OnOk, map, not, option_map, ◌&&◌, if◌then◌else◌};
+ghost use Rattle.edit_base.specs.Errors.{IsMemory};
+ghost use Rattle.edit_sources.specs.IndexLines.{lines_of};
+ghost use Rattle.edit_sources.specs.Published.{has_entry, instant_of, is_by, is_withheld, line_end, publish_time, published_line, published_text};
+ghost use Rattle.serde_json.specs.View.{view};
+
+use crate::index_lines::{rust_version, split_line, text, yanked_flag};
+use edit_base::errors::{CargoResult, Error};
+use jiff::Timestamp;
+use serde_json::Value;
+use std::alloc::{AllocError, Global};
+
+/// A time at or before which a version has to be published, in nanoseconds since the Unix epoch.
+#[derive(Clone, Copy, Debug, PartialEq, Eq, Drop)]
+pub struct PublishedBefore {
+    pub nanosecond: i128,
+}
+
+impl PublishedBefore {
+    /// Reads a time as RFC 3339 has it, as `2025-05-01T12:00:00Z`; `None` for another text.
+    pub fn parse(text: &str) -> Option<PublishedBefore>
+        ensures { option_map (λ bound. bound.nanosecond) result ≡ instant_of text.now }
+    {
+        let nanosecond = instant(text)?;
+        Some(PublishedBefore { nanosecond })
+    }
+}
+
+/// The nanoseconds from the Unix epoch to the instant of a text; `None` where the text is not a time.
+fn instant(text: &str) -> Option<i128>
+    ensures { result ≡ instant_of text.now }
+{
+    match text.parse::<Timestamp>() {
+        Ok(time) => Some(time.as_nanosecond()),
+        Err(_) => None,
+    }
+}
+
+/// The time at which a version was published, if its line says so.
+fn publish_time(value: &Value) -> Option<i128>
+    ensures { result ≡ publish_time (view value.now) }
+{
+    match text(value.get("pubtime")) {
+        Some(text) => instant(text),
+        None => None,
+    }
+}
+
+/// Whether a time is known, and at or before the bound.
+fn is_by(bound: PublishedBefore, time: Option<i128>) -> bool
+    ensures { result ≡ is_by bound time }
+{
+    match time {
+        Some(time) => time <= bound.nanosecond,
+        None => false,
+    }
+}
+
+/// Whether a JSON value has the members of an entry.
+fn has_entry(value: &Value) -> bool
+    ensures { result ≡ has_entry (view value.now) }
+{
+    text(value.get("name")).is_some()
+        && text(value.get("vers")).is_some()
+        && yanked_flag(value.get("yanked")).is_some()
+        && rust_version(value.get("rust_version")).is_some()
+}
+
+/// Whether a JSON value is that of a version which was not published at or before the bound.
+fn is_withheld_value(value: &Value, bound: PublishedBefore) -> bool
+    ensures { result ≡ (has_entry (view value.now) && not (is_by bound (publish_time (view value.now)))) }
+{
+    has_entry(value) && !is_by(bound, publish_time(value))
+}
+
+/// Whether a line is valid and does not say that its version was published at or before the bound.
+fn is_withheld(alloc: Global, line: &[u8], bound: PublishedBefore) -> CargoResult<bool>
+    ensures withheld { IfOk result (λ w. w ≡ is_withheld bound line.now) }
+    ensures error { IfErr result IsMemory }
+{
+    match Value::from_slice(alloc, line) {
+        Ok(value) => Ok(is_withheld_value(&value, bound)),
+        Err(error) if error.is_memory() => Err(Error::Memory),
+        Err(_) => Ok(false),
+    }
+}
+
+/// Appends a line, or an empty one if it is withheld, and a line feed if there are lines after it.
+fn push_line(
+    text: &mut Vec<u8>,
+    line: &[u8],
+    withheld: bool,
+    has_more: bool,
+) -> Result<(), AllocError>
+    ensures { OnOk result (text.new.items ≡ text.old.items ++ (if withheld then [] else line.now)
+        ++ line_end has_more) }
+{
+    if !withheld {
+        text.extend_from_slice(line)?;
+    }
+    if has_more {
+        text.push(b'\n')?;
+    }
+    Ok(())
+}
+
+/// Empties each valid line that does not say that its version was published at or before the bound.
+///
+/// A version whose time is unknown is withheld. Malformed lines stay, and every line keeps its number.
+pub fn retain_published(alloc: Global, bytes: &[u8], bound: PublishedBefore) -> CargoResult<Vec<u8>>
+    ensures text { IfOk result (λ v. v.items ≡ published_text bound bytes.now) }
+    ensures lines { IfOk result (λ v. lines_of v.items ≡ map (published_line bound) (lines_of bytes.now)) }
+    ensures error { IfErr result IsMemory }
+{
+    let mut published = Vec::with_capacity(alloc, bytes.len())?;
+    let mut rest = Some(bytes);
+    'lines: while let Some(text) = rest {
+        let (line, after) = split_line(text);
+        let withheld = is_withheld(alloc, line, bound)?;
+        push_line(&mut published, line, withheld, after.is_some())?;
+        rest = after;
+    }
+    Ok(published)
+}
