@@ -1,5 +1,5 @@
 //! Index lines of versions that were published at or before a bound.
-ghost use Rattle.std.specs.Prelude.{◌≡◌, [], ◌++◌, IfErr, IfOk, OnOk, map, not, option_map, ◌&&◌, if◌then◌else◌};
+ghost use Rattle.std.specs.Prelude.{◌≡◌, [], ◌++◌, ◌-ℤ◌, ◌*ℤ◌, pos, IfErr, IfOk, OnOk, map, not, option_map, ◌&&◌, if◌then◌else◌};
 ghost use Rattle.edit_base.specs.Errors.{IsMemory};
 ghost use Rattle.edit_sources.specs.IndexLines.{lines_of};
 ghost use Rattle.edit_sources.specs.Published.{has_entry, instant_of, is_by, is_withheld, line_end, publish_time, published_line, published_text};
@@ -24,6 +24,16 @@ impl PublishedBefore {
     {
         let nanosecond = instant(text)?;
         Some(PublishedBefore { nanosecond })
+    }
+
+    /// The bound that lies a number of days, of 24 hours each, before `now`, in seconds since the Unix epoch.
+    pub fn days_before(now: i64, days: u32) -> PublishedBefore
+        ensures { result.nanosecond ≡ (now -ℤ (pos days *ℤ pos 86_400)) *ℤ pos 1_000_000_000 }
+    {
+        let second = now as i128 - days as i128 * 86_400;
+        PublishedBefore {
+            nanosecond: second * 1_000_000_000,
+        }
     }
 }
 
