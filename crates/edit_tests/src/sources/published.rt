@@ -1,0 +1,48 @@
+//! Tests of `retain_published` and `PublishedBefore`.
+use super::calls::calls;
+use crate::assertion_helpers::unwrap_ok;
+use edit_cache::IndexCache;
+use edit_sources::{FileIndex, PublishedBefore, retain_published};
+
+/// A line of each crate, with the time at which its version was published.
+const DATED: &[u8] = b"\
+{\"name\":\"before\",\"vers\":\"1.0.0\",\"pubtime\":\"2025-05-01T11:59:59Z\"}\n\
+{\"name\":\"equal\",\"vers\":\"1.0.0\",\"pubtime\":\"2025-05-01T12:00:00Z\"}\n\
+{\"name\":\"after\",\"vers\":\"1.0.0\",\"pubtime\":\"2025-05-01T12:00:01Z\"}\n\
+{\"name\":\"absent\",\"vers\":\"1.0.0\"}\n\
+{\"name\":\"null\",\"vers\":\"1.0.0\",\"pubtime\":null}\n\
+{\"name\":\"number\",\"vers\":\"1.0.0\",\"pubtime\":1746100799}\n\
+{\"name\":\"unreadable\",\"vers\":\"1.0.0\",\"pubtime\":\"May 2025\"}\n\
+{\"name\":\"east\",\"vers\":\"1.0.0\",\"pubtime\":\"2025-05-01T13:59:59+02:00\"}\n\
+{\"name\":\"west\",\"vers\":\"1.0.0\",\"pubtime\":\"2025-05-01T11:59:59-02:00\"}\n";
+
+/// The calls over them.
+const OVER_DATED: &str = "\
+before the bound|krate|before||before 1.0.0.
+at the bound|krate|equal||equal 1.0.0.
+after the bound|krate|after||none
+no time|krate|absent||none
+null|krate|null||none
+a number|krate|number||none
+an unreadable text|krate|unreadable||none
+an earlier instant, a later clock|krate|east||east 1.0.0.
+a later instant, an earlier clock|krate|west||none";
+
+#[test]
+fn retains_published_lines(rt: HostRuntime) {
+    let bound = PublishedBefore::parse("2025-05-01T12:00:00Z").expect(&rt, "a time");
+    let bytes = unwrap_ok(&rt, retain_published(rt.alloc(), DATED, bound));
+    let index = unwrap_ok(&rt, FileIndex::read(rt.alloc(), &bytes));
+    let mut cache = IndexCache::new(rt.alloc(), index);
+    calls(&rt, rt.alloc(), &mut cache, OVER_DATED);
+}
+
+#[test]
+fn counts_days_back(rt: HostRuntime) {
+    // 2025-05-01T12:00:00Z
+    let bound = PublishedBefore::days_before(1_746_100_800, 7);
+    assert!(rt;
+        Some(bound) == PublishedBefore::parse("2025-04-24T12:00:00Z"),
+        "another time"
+    );
+}
