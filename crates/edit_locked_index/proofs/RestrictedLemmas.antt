@@ -50,7 +50,8 @@ error_restricted (Some has) old new address name e (inr (inl (number, given))) =
 error_restricted (Some has) old new address name e (inr (inr failed)) = inr (inr failed)
 
 -- the count of faults is that of the index below
-pub same_faults : (has : Option (List ℕ → List ℕ → Bool)) (v : IndexView) → (restricted_view has v).faults ≡ v.faults
+pub same_faults : (has : Option (List ℕ → List ℕ → Bool)) (v : IndexView)
+    → (restricted_view has v).faults ≡ v.faults
 same_faults None v = refl
 same_faults (Some has) v = refl
 

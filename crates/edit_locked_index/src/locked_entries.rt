@@ -43,7 +43,8 @@ fn add_locked(
     kept: &mut Vec<IndexVersion>,
 ) -> CargoResult<()>
     ensures ok { OnOk result (map entry_of kept.new.items ≡ map entry_of kept.old.items
-        ++ (if version_test specs.now name.now (entry_of entry.now).version then entry_of entry.now ∷ [] else [])) }
+        ++ (if version_test specs.now name.now (entry_of entry.now).version then entry_of entry.now ∷ []
+        else [])) }
     ensures error { IfErr result IsMemory }
 {
     if !is_locked(alloc, specs, name, entry.version.as_str())? {

@@ -30,7 +30,8 @@ bad_lock required old new current named path bytes e refused at stands (inr bad)
 })
 
 -- a lock file that is named is not read
-pub lock_refused : (required : Bool) (old new : StoreView) (current : List ℕ) (home lock : Option (List ℕ)) (a : RequestView) (e : Error)
+pub lock_refused : (required : Bool) (old new : StoreView) (current : List ℕ) (home lock : Option (List ℕ))
+    (a : RequestView) (e : Error)
     → IsCallError call.Read old new e ⊎ (old.tells ≡ true → HasNoLock required old.file_at current lock e)
     → IsReadCause current home a old new e ⊎ (old.tells ≡ true → HasNoLock required old.file_at current lock e)
 lock_refused required old new current home lock a e (inl refused) = inl (inl (inr refused))

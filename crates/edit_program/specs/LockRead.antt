@@ -21,7 +21,8 @@ pub record IsLockAt (required : Bool) (files : Files) (current named : List ℕ)
 -- the lock file was read, where one is given
 abbrev pub IsLockRead : Bool → Files → List ℕ → Option (List ℕ) → Option (List Package) → Type 0
 IsLockRead required files current None None = ⊤
-IsLockRead required files current (Some named) (Some packages) = IsLockAt required files current named packages
+IsLockRead required files current (Some named) (Some packages) =
+    IsLockAt required files current named packages
 IsLockRead required files current _ _ = ⊥
 
 -- the error of a lock file, by its bytes: there is no such file and one is required, or the bytes cannot be

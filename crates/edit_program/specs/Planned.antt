@@ -62,7 +62,8 @@ restriction to_lockfile lock = if to_lockfile then Some (unwrap_or lock []) else
 
 -- the index of an upgrade, with `--to-lockfile` restricted to the packages of the lock file
 abbrev pub upgrade_index : UpgradeArgs → Option (List Package) → IndexSource → StoreView → IndexView
-upgrade_index words lock index local = locked_view (restriction words.to_lockfile lock) (index_view index local)
+upgrade_index words lock index local =
+    locked_view (restriction words.to_lockfile lock) (index_view index local)
 
 -- an empty cache
 abbrev pub empty_answers : CachedAnswers

@@ -24,7 +24,8 @@ use Rattle.edit_program.specs.StderrText.{upgrade_stderr_text}
 abbrev pub IsRead : UpgradeArgs → List ℕ → Option (List ℕ) → Files → Sources → Type 0
 IsRead words current home files s = AreRead files current home (to_request words) s
 
--- the plan for the files that were read, over their index, which `--to-lockfile` restricts to these packages
+-- the plan for the files that were read, over their index, which `--to-lockfile` restricts to these
+-- packages
 abbrev pub IsPlannedFor : UpgradeArgs → Sources → Option (List Package) → StoreView → UpgradePlan → Type 0
 IsPlannedFor words s lock local plan =
     IsPlanned words.options s.target.inputs.items (lists_for s.configs) (upgrade_index words lock s.index local)

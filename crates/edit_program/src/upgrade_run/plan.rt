@@ -22,7 +22,8 @@ use std::alloc::Global;
 
 /// The packages of a lock file; none without one.
 fn locked_packages(lock: Option<&Lock>) -> &[LockedPackage]
-    ensures { map locked_package_view result.now ≡ unwrap_or (option_map (λ l. lock_view l.now) lock.entry) [] }
+    ensures { map locked_package_view result.now
+        ≡ unwrap_or (option_map (λ l. lock_view l.now) lock.entry) [] }
 {
     match lock {
         Some(lock) => lock.packages.as_slice(),
