@@ -1,13 +1,13 @@
 -- The results of a restricted index, from those of the index below it.
 use Rattle.std.proofs.Common.{◌≡◌, ℕ, Bool, Bor, List, None, Option, Result, Some, Ok, ap, inl, inr, option_map, refl, subst}
 use Rattle.std.proofs.lemmas.Result.{IfErr-weaker}
-use Rattle.std.specs.Prelude.{◌≤◌, ◌⊎◌, String, option_copied}
+use Rattle.std.specs.Prelude.{◌≤◌, String, option_copied}
 use Rattle.std.specs.BTreeSet.{BTreeSet}
 use Rattle.std.specs.declared.alloc.Global.{Global}
 use Rattle.url.specs.Parts.{Parts}
 use Rattle.edit_base.specs.declared.errors.Error.{Error}
 use Rattle.edit_lock.specs.LockFile.{Package}
-use Rattle.edit_sources.specs.Index.{HasLookupCause, IndexView, IsLookupError, SameOutcomes, lookup_error}
+use Rattle.edit_sources.specs.Index.{HasLookupCause, IndexView, IsLookupError, SameOutcomes}
 use Rattle.edit_version.specs.IndexEntry.{IndexEntry}
 use Rattle.edit_locked_index.specs.LockedIndex.{has_version, index_of, locked_view, restricted_answer, restricted_view, tests_of, version_test, view_of}
 use Rattle.edit_locked_index.specs.declared.locked_index.LockedIndex.{LockedIndex}
