@@ -73,9 +73,10 @@ deliver-requires-clause-outputs g c =
     let words = c.args.words.now in
     let s = c.in_ok-readings.readings.sources in
     let local = g.T.Store.view c.args.index_files in
+    let lock = option_map (λ l. lock_view l.now) c.as_ref-lock.result in
     subst (λ p. HaveDistinctPaths p.outputs.items) (sym (ap (λ (d : Delivery). d.plan) c.delivery_task-task.ensures))
-    (plan_paths words s _ local c.in-Ok.plan c.in_ok-readings.ensures.planned.paths
-    (planned_for words s local c.in-Ok.plan _ _ c.restriction-locked.ensures c.in-Ok.ensures.planned))
+    (plan_paths words s lock local c.in-Ok.plan c.in_ok-readings.ensures.planned.paths
+    (planned_for words s local c.in-Ok.plan _ lock c.restriction-locked.ensures c.in-Ok.ensures.planned))
 
 pub deliver-requires-clause-rows : goal.deliver-requires-clause-rows
 deliver-requires-clause-rows g c =
