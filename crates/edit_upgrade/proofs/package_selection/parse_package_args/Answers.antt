@@ -9,8 +9,8 @@ use Rattle.edit_upgrade.proofs.OptionCauseLemmas.{stops-at}
 use Rattle.edit_upgrade.proofs.PackageArgLemmas.{no_args, args_more}
 use Rattle.edit_upgrade.proofs.package_selection.parse_package_args.Goals as goal
 
-pub args-init : goal.args-init
-args-init c = no_args _ c.new.ensures.items c.new-2.ensures.empty
+pub each_arg-init : goal.each_arg-init
+each_arg-init c = no_args _ c.new.ensures.items c.new-2.ensures.empty
 
 pub each_arg-preserved : goal.each_arg-preserved
 each_arg-preserved c =

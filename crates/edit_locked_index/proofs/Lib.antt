@@ -1,2 +1,0 @@
-pub mod RestrictedLemmas
-pub mod EntryLemmas
