@@ -3,6 +3,9 @@ use Rattle.std.proofs.Common.{Result, arith, inl, inr, refl, subst, ℕ, ◌≡�
 use Rattle.std.proofs.lemmas.Result.{IfErr-weaker}
 use Rattle.std.specs.Prelude.{IfErr}
 use Rattle.edit_base.specs.declared.errors.Error.{Error}
+use Rattle.edit_locked_index.proofs.RestrictedLemmas.{same_faults}
+use Rattle.edit_locked_index.specs.LockedIndex.{index_of, tests_of, view_of}
+use Rattle.edit_locked_index.specs.declared.locked_index.LockedIndex.{LockedIndex}
 use Rattle.edit_sources.specs.DirIndex.{dir_view, folder_of}
 use Rattle.edit_sources.specs.DirIndex.{store_of as folder_store}
 use Rattle.edit_sources.specs.FileIndex.{file_view}
@@ -30,6 +33,19 @@ store_fails {I} {T} view index files store store_of e same is counts device =
           (subst (λ (n : ℕ). IsRaisedCount n (files (store_of failed.0)).faults) (same index)
           (subst (λ (n : ℕ). IsRaisedCount (view index).faults n) (same failed.0) failed.1)),
     )
+
+-- a restricted index fails only where the index below it does
+pub locked_fault : {I : Type 0} (view : I → IndexView) (locked : LockedIndex I) (index : I) (e : Error)
+    → index_of locked ≡ index → CountsIndexFault (view_of view) locked e → CountsIndexFault view index e
+locked_fault {I} view locked index e is counts device =
+    let failed = counts device in
+    let after = index_of failed.0 in
+    let old = same_faults (tests_of locked) (view (index_of locked)) in
+    let new = same_faults (tests_of failed.0) (view after) in
+    let raised : IsRaisedCount (view (index_of locked)).faults (view after).faults =
+    subst (λ (n : ℕ). IsRaisedCount n (view after).faults) old
+    (subst (λ (n : ℕ). IsRaisedCount (view_of view locked).faults n) new failed.1) in
+    (after, subst (λ (i : I). IsRaisedCount (view i).faults (view after).faults) is raised)
 
 -- a plan over the index in files
 pub local_fault : {T V : Type 0} (files : T → StoreView) (index : LocalIndex T) (store : T)
