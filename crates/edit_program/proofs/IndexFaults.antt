@@ -1,5 +1,5 @@
 -- Device errors of a plan over an index: those of the store below the index, or none.
-use Rattle.std.proofs.Common.{Result, arith, inl, inr, refl, subst, ℕ, ◌≡◌}
+use Rattle.std.proofs.Common.{List, None, Option, Result, ap, arith, inl, inr, refl, subst, ℕ, ◌≡◌, ◌∙◌}
 use Rattle.std.proofs.lemmas.Result.{IfErr-weaker}
 use Rattle.std.specs.Prelude.{IfErr}
 use Rattle.edit_base.specs.declared.errors.Error.{Error}
@@ -7,13 +7,15 @@ use Rattle.edit_locked_index.proofs.RestrictedLemmas.{same_faults}
 use Rattle.edit_locked_index.specs.LockedIndex.{index_of, tests_of, view_of}
 use Rattle.edit_locked_index.specs.declared.locked_index.LockedIndex.{LockedIndex}
 use Rattle.edit_sources.specs.DirIndex.{dir_view, folder_of}
-use Rattle.edit_sources.specs.DirIndex.{store_of as folder_store}
+use Rattle.edit_sources.specs.DirIndex.{bound_of as folder_bound, files_of as folder_files, store_of as folder_store}
 use Rattle.edit_sources.specs.FileIndex.{file_view}
 use Rattle.edit_sources.specs.Index.{IndexView}
-use Rattle.edit_sources.specs.LocalIndex.{local_view, store_of}
+use Rattle.edit_sources.specs.LocalIndex.{bound_of, files_of, local_view, store_of}
+use Rattle.edit_sources.specs.Published.{published_view}
 use Rattle.edit_sources.specs.declared.file_index.FileIndex.{FileIndex}
 use Rattle.edit_sources.specs.declared.index_dir.dir_index.DirIndex.{DirIndex}
 use Rattle.edit_sources.specs.declared.local_index.LocalIndex.{LocalIndex}
+use Rattle.edit_sources.specs.declared.published.PublishedBefore.{PublishedBefore}
 use Rattle.edit_store.specs.Store.{StoreView, IsRaisedCount}
 use Rattle.edit_program.specs.Counted.{CountsIndexFault, CountsStoreFault}
 
@@ -50,19 +52,19 @@ locked_fault {I} view locked index e is counts device =
 -- a plan over the index in files
 pub local_fault : {T V : Type 0} (files : T → StoreView) (index : LocalIndex T) (store : T)
     (r : Result V Error) → store_of index ≡ store
-    → IfErr r (CountsIndexFault (λ (i : LocalIndex T). local_view (files i.store)) index)
+    → IfErr r (CountsIndexFault (λ (i : LocalIndex T). local_view (files_of files i)) index)
     → IfErr r (CountsStoreFault files store)
 local_fault {T} files index store r is counts =
-    IfErr-weaker r _ _ (λ e h. store_fails (λ (i : LocalIndex T). local_view (files i.store)) index files
+    IfErr-weaker r _ _ (λ e h. store_fails (λ (i : LocalIndex T). local_view (files_of files i)) index files
     store (λ (i : LocalIndex T). store_of i) e (λ i. refl) is h) counts
 
 -- a plan over a folder of registries
 pub folder_fault : {T V : Type 0} (files : T → StoreView) (index : DirIndex T) (store : T)
     (r : Result V Error) → folder_store index ≡ store
-    → IfErr r (CountsIndexFault (λ (i : DirIndex T). dir_view (folder_of i) (files i.store)) index)
+    → IfErr r (CountsIndexFault (λ (i : DirIndex T). dir_view (folder_of i) (folder_files files i)) index)
     → IfErr r (CountsStoreFault files store)
 folder_fault {T} files index store r is counts =
-    IfErr-weaker r _ _ (λ e h. store_fails (λ (i : DirIndex T). dir_view (folder_of i) (files i.store))
+    IfErr-weaker r _ _ (λ e h. store_fails (λ (i : DirIndex T). dir_view (folder_of i) (folder_files files i))
     index files store (λ (i : DirIndex T). folder_store i) e (λ i. refl) is h) counts
 
 -- a plan over the lines of a file, which fails for no device
@@ -71,3 +73,20 @@ pub lines_fault : {T V : Type 0} (files : T → StoreView) (index : FileIndex) (
     → IfErr r (CountsStoreFault files store)
 lines_fault files index store r counts =
     IfErr-weaker r _ _ (λ e h device. absurd (none_raised (h device).1)) counts
+
+-- an index in files without a bound is over the files of its store
+pub local_without : {T : Type 0} (files : T → StoreView) (index : LocalIndex T) (store : T)
+    → store_of index ≡ store → bound_of index ≡ None
+    → local_view (files_of files index) ≡ local_view (files store)
+local_without {T} files index store is unbound =
+    ap (λ (s : T). local_view (published_view (bound_of index) (files s))) is
+    ∙ ap (λ (b : Option PublishedBefore). local_view (published_view b (files store))) unbound
+
+-- a folder of registries without a bound is over the files of its store
+pub folder_without : {T : Type 0} (files : T → StoreView) (index : DirIndex T) (store : T) (folder : List ℕ)
+    → folder_store index ≡ store → folder_bound index ≡ None → folder_of index ≡ folder
+    → dir_view (folder_of index) (folder_files files index) ≡ dir_view folder (files store)
+folder_without {T} files index store folder is unbound named =
+    ap (λ (s : T). dir_view (folder_of index) (published_view (folder_bound index) (files s))) is
+    ∙ ap (λ (b : Option PublishedBefore). dir_view (folder_of index) (published_view b (files store))) unbound
+    ∙ ap (λ (f : List ℕ). dir_view f (files store)) named
