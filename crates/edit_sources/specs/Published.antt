@@ -39,11 +39,11 @@ has_entry d =
 abbrev pub is_index_line : List ℕ → Bool
 is_index_line line = is_utf8 line && option_map_or has_entry (read line) false
 
--- whether a line tells of a publication at or before the bound (own)
+-- whether a line says that its version was published at or before the bound (own)
 abbrev pub is_published : PublishedBefore → List ℕ → Bool
 is_published bound line = option_map_or (λ d. is_by bound (publish_time d)) (read line) false
 
--- whether a line is valid and does not tell of a publication at or before the bound (own)
+-- whether a line is valid and does not say that its version was published by the bound (own)
 abbrev pub is_withheld : PublishedBefore → List ℕ → Bool
 is_withheld bound line = is_index_line line && not (is_published bound line)
 
