@@ -1,5 +1,5 @@
 -- Device errors of a plan over an index: those of the store below the index, or none.
-use Rattle.std.proofs.Common.{List, None, Option, Result, ap, arith, inl, inr, refl, subst, ℕ, ◌≡◌, ◌∙◌}
+use Rattle.std.proofs.Common.{List, None, Option, Result, arith, inl, inr, refl, subst, ℕ, ◌≡◌}
 use Rattle.std.proofs.lemmas.Result.{IfErr-weaker}
 use Rattle.std.specs.Prelude.{IfErr}
 use Rattle.edit_base.specs.declared.errors.Error.{Error}
@@ -74,19 +74,21 @@ pub lines_fault : {T V : Type 0} (files : T → StoreView) (index : FileIndex) (
 lines_fault files index store r counts =
     IfErr-weaker r _ _ (λ e h device. absurd (none_raised (h device).1)) counts
 
--- an index in files without a bound is over the files of its store
-pub local_without : {T : Type 0} (files : T → StoreView) (index : LocalIndex T) (store : T)
+-- what holds over an index in files without a bound holds over the files of its store
+pub over_files : {T : Type 0} (files : T → StoreView) (index : LocalIndex T) (store : T) (P : IndexView → Type 0)
     → store_of index ≡ store → bound_of index ≡ None
-    → local_view (files_of files index) ≡ local_view (files store)
-local_without {T} files index store is unbound =
-    ap (λ (s : T). local_view (published_view (bound_of index) (files s))) is
-    ∙ ap (λ (b : Option PublishedBefore). local_view (published_view b (files store))) unbound
+    → P (local_view (files_of files index)) → P (local_view (files store))
+over_files {T} files index store P is unbound h =
+    subst (λ (s : T). P (local_view (files s))) is
+    (subst (λ (b : Option PublishedBefore). P (local_view (published_view b (files (store_of index))))) unbound h)
 
--- a folder of registries without a bound is over the files of its store
-pub folder_without : {T : Type 0} (files : T → StoreView) (index : DirIndex T) (store : T) (folder : List ℕ)
-    → folder_store index ≡ store → folder_bound index ≡ None → folder_of index ≡ folder
-    → dir_view (folder_of index) (folder_files files index) ≡ dir_view folder (files store)
-folder_without {T} files index store folder is unbound named =
-    ap (λ (s : T). dir_view (folder_of index) (published_view (folder_bound index) (files s))) is
-    ∙ ap (λ (b : Option PublishedBefore). dir_view (folder_of index) (published_view b (files store))) unbound
-    ∙ ap (λ (f : List ℕ). dir_view f (files store)) named
+-- what holds over a folder of registries without a bound holds over the files of its store
+pub over_folder : {T : Type 0} (files : T → StoreView) (index : DirIndex T) (store : T) (folder : List ℕ)
+    (P : IndexView → Type 0) → folder_store index ≡ store → folder_bound index ≡ None
+    → folder_of index ≡ folder → P (dir_view (folder_of index) (folder_files files index))
+    → P (dir_view folder (files store))
+over_folder {T} files index store folder P is unbound named h =
+    subst (λ (f : List ℕ). P (dir_view f (files store))) named
+    (subst (λ (s : T). P (dir_view (folder_of index) (files s))) is
+    (subst (λ (b : Option PublishedBefore). P (dir_view (folder_of index) (published_view b (files (folder_store index)))))
+    unbound h))
