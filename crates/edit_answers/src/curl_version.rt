@@ -45,32 +45,3 @@ pub fn is_new_enough(text: &str) -> bool
         None => false,
     }
 }
-
-#[cfg(test)]
-mod tests {
-    use super::*;
-
-    #[test]
-    fn versions(rt: HostRuntime) {
-        let new = [
-            "curl 7.88.1 (x86_64-pc-linux-gnu) libcurl/7.88.1 OpenSSL/3.0.19",
-            "curl 7.75.0 (x86_64-pc-linux-gnu)",
-            "curl 8.14.1 (aarch64-apple-darwin)",
-            "curl 10.0.0",
-        ];
-        for text in new {
-            assert!(rt; is_new_enough(text), "{text}");
-        }
-        let old = [
-            "",
-            "curl 7.74.0 (x86_64-pc-linux-gnu)",
-            "curl 7.9.8",
-            "curl 6.99.0",
-            "wget 8.1.0",
-            "curl 8",
-        ];
-        for text in old {
-            assert!(rt; !is_new_enough(text), "{text}");
-        }
-    }
-}

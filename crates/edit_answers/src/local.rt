@@ -166,36 +166,3 @@ pub fn settle_local<'a, S: Store>(
         Err(error) => Err(error),
     }
 }
-
-#[cfg(test)]
-mod tests {
-    use super::*;
-    use std::test::Fail;
-
-    /// The folder of an address, or `-` where it names none.
-    fn folder_or_dash(alloc: Global, address: &str) -> Result<String, Fail> {
-        match local_folder(alloc, address)? {
-            Some(folder) => Ok(folder),
-            None => Ok(String::from_str(alloc, "-")?),
-        }
-    }
-
-    #[test]
-    fn folders(rt: HostRuntime) -> Result<(), Fail> {
-        let cases = [
-            ("file:///idx/", "/idx"),
-            ("file:///a%20b/c", "/a b/c"),
-            ("file:///", "/"),
-            ("file:///a%2F", "/a"),
-            ("file://host.example/idx", "-"),
-            ("file:///a%00b", "-"),
-            ("file:///a%FF", "-"),
-            ("https://h.example/idx", "-"),
-            ("idx", "-"),
-        ];
-        for (address, folder) in cases {
-            assert_eq!(rt; folder_or_dash(rt.alloc(), address)?.as_str(), folder);
-        }
-        Ok(())
-    }
-}

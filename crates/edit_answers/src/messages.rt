@@ -266,6 +266,3 @@ pub fn report_of(
     let error = error_of(alloc, &missing)?;
     Ok(Report { warnings, error })
 }
-
-#[cfg(test)]
-mod tests;

@@ -93,6 +93,3 @@ pub fn store_answers<S: LinkStore>(
         None => Ok(malformed_report(alloc)?),
     }
 }
-
-#[cfg(test)]
-mod tests;

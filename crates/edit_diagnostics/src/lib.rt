@@ -12,8 +12,6 @@ mod same;
 mod set_version;
 mod sources;
 mod suggestions;
-#[cfg(test)]
-mod tests;
 mod upgrade;
 
 pub use delivery::explain_delivery;

@@ -104,33 +104,3 @@ pub fn net_settings<S: Store>(
     }
     Ok(settings_of(values))
 }
-
-#[cfg(test)]
-mod tests {
-    use super::*;
-    use edit_sources::config::read_configs;
-    use edit_store::MemoryStore;
-    use std::test::Fail;
-
-    const CONFIG: &[u8] = b"[net]\nretry = 7\n[http]\ntimeout = 5\ncainfo = \"ca.pem\"\n";
-
-    #[test]
-    fn environment_before_file(rt: HostRuntime) -> Result<(), Fail> {
-        let mut store = MemoryStore::new(rt.alloc());
-        store.write(rt.alloc(), "/w/.cargo/config.toml", CONFIG)?;
-        let configs = read_configs(rt.alloc(), &mut store, "/w/Cargo.toml", None)?;
-        let environment = Environment {
-            offline: Some("true"),
-            retry: Some("9"),
-            timeout: None,
-            proxy: None,
-            cainfo: None,
-        };
-        let settings = net_settings(rt.alloc(), &mut store, &environment, &configs)?;
-        assert!(rt; settings.offline);
-        assert_eq!(rt; settings.retry, 9);
-        assert_eq!(rt; settings.timeout, 5);
-        assert_eq!(rt; settings.cainfo.as_deref(), Some("/w/ca.pem"));
-        Ok(())
-    }
-}

@@ -74,19 +74,3 @@ pub fn registry_address(alloc: Global, index: &str) -> Result<Option<String>, Al
         Err(_) => Ok(None),
     }
 }
-
-#[cfg(test)]
-mod tests {
-    use super::*;
-    use std::test::Fail;
-
-    #[test]
-    fn names_token_variable(rt: HostRuntime) -> Result<(), Fail> {
-        let variable = token_variable(rt.alloc(), "my-registry")?.ok_or("no variable")?;
-        assert_eq!(rt; variable.as_str(), "CARGO_REGISTRIES_MY_REGISTRY_TOKEN");
-        let address = registry_address(rt.alloc(), "HTTPS://Index.Example")?.ok_or("no address")?;
-        assert_eq!(rt; address.as_str(), "https://index.example/");
-        assert!(rt; registry_address(rt.alloc(), "index.example")?.is_none());
-        Ok(())
-    }
-}

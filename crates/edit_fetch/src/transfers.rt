@@ -275,17 +275,3 @@ pub fn requests_text(
     let text = transfers_text(alloc, settings, room, requests)?;
     Ok(text)
 }
-
-#[cfg(test)]
-mod tests {
-    use super::*;
-    use std::test::Fail;
-
-    #[test]
-    fn texts_of_headers(rt: HostRuntime) -> Result<(), Fail> {
-        assert!(rt; is_header_text(b"Bearer a-token \xff~"));
-        assert!(rt; !is_header_text(b"token\n"));
-        assert!(rt; !is_header_text(b"a\x7f"));
-        Ok(())
-    }
-}

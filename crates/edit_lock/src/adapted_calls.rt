@@ -188,6 +188,3 @@ pub fn adapt_calls(
     }
     Ok(standing)
 }
-
-#[cfg(test)]
-mod tests;

@@ -51,8 +51,8 @@ fn add_spec(specs: &mut BTreeSet<String>, spec: String) -> Result<(), AllocError
     Ok(())
 }
 
-/// The packages of a lock file.
-fn specs_of(alloc: Global, packages: &[LockedPackage]) -> Result<BTreeSet<String>, AllocError>
+/// The packages of a lock file, each as `NAME@VERSION`.
+pub fn specs_of(alloc: Global, packages: &[LockedPackage]) -> Result<BTreeSet<String>, AllocError>
     ensures { IfOk result (λ s. (q : List ℕ)
         → contains_text s q ≡ locks (map locked_package_view packages.now) q) }
 {

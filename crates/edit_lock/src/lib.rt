@@ -8,4 +8,5 @@ mod lock;
 
 pub use adapted_calls::adapt_calls;
 pub use calls_file::read_calls;
+pub use index::specs_of;
 pub use lock::{Lock, LockedPackage};

@@ -43,29 +43,3 @@ pub fn validator_path(alloc: Global, entry: &str) -> Result<String, AllocError>
 {
     format!(in alloc; "{entry}.etag")
 }
-
-#[cfg(test)]
-mod tests {
-    use super::*;
-    use std::test::Fail;
-
-    #[test]
-    fn paths_in_cache(rt: HostRuntime) -> Result<(), Fail> {
-        let lookup = Lookup {
-            address: "sparse+https://user:pw@host.example/a%20b/",
-            name: "serde",
-            path: "se/rd/serde",
-        };
-        let entry = cached_path(rt.alloc(), "/cache", &lookup)?;
-        assert_eq!(rt;
-            entry.as_str(),
-            "/cache/sparse+https:%2F%2Fhost.example%2Fa%2520b%2F/se/rd/serde"
-        );
-        let validator = validator_path(rt.alloc(), entry.as_str())?;
-        assert_eq!(rt;
-            validator.as_str(),
-            "/cache/sparse+https:%2F%2Fhost.example%2Fa%2520b%2F/se/rd/serde.etag"
-        );
-        Ok(())
-    }
-}

@@ -25,17 +25,3 @@ pub fn push_escaped(to: &mut String, text: &str) -> Result<(), AllocError>
     }
     Ok(())
 }
-
-#[cfg(test)]
-mod tests {
-    use super::*;
-    use std::test::Fail;
-
-    #[test]
-    fn control_characters(rt: HostRuntime) -> Result<(), Fail> {
-        let mut text = String::from_str(rt.alloc(), "<")?;
-        push_escaped(&mut text, "a\u{1b}[1m\u{85}\u{e9}")?;
-        assert_eq!(rt; text.as_str(), "<a\\u{1b}[1m\\u{85}\u{e9}");
-        Ok(())
-    }
-}

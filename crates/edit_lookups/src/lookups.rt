@@ -64,23 +64,3 @@ pub fn read_lookups<'a>(alloc: Global, text: &'a str) -> Result<Option<Vec<Looku
         Ok(None)
     }
 }
-
-#[cfg(test)]
-mod tests {
-    use super::*;
-    use std::test::Fail;
-
-    #[test]
-    fn two_lookups(rt: HostRuntime) -> Result<(), Fail> {
-        let text = "sparse+https://index.example/\tserde\tse/rd/serde\nfile:///idx\tAbc\t3/a/abc\n";
-        let lookups = read_lookups(rt.alloc(), text)?.ok_or("no lookups")?;
-        assert_eq!(rt; lookups.len(), 2);
-        assert_eq!(rt; lookups[0].address, "sparse+https://index.example/");
-        assert_eq!(rt; lookups[0].name, "serde");
-        assert_eq!(rt; lookups[1].path, "3/a/abc");
-        assert!(rt; read_lookups(rt.alloc(), "a\tb\n")?.is_none());
-        assert!(rt; read_lookups(rt.alloc(), "a\tb\tc\td\n")?.is_none());
-        assert!(rt; read_lookups(rt.alloc(), "a\tb\tc")?.is_none());
-        Ok(())
-    }
-}

@@ -60,18 +60,3 @@ pub fn strip_userinfo(alloc: Global, address: &str) -> Result<String, AllocError
     };
     with_scheme(alloc, scheme, without_userinfo(rest))
 }
-
-#[cfg(test)]
-mod tests {
-    use super::*;
-    use std::test::Fail;
-
-    #[test]
-    fn without_userinfo(rt: HostRuntime) -> Result<(), Fail> {
-        let shown = strip_userinfo(rt.alloc(), "sparse+https://user:p@ss@host.example/a@b")?;
-        assert_eq!(rt; shown.as_str(), "sparse+https://host.example/a@b");
-        let shown = strip_userinfo(rt.alloc(), "https://host.example?q=a@b")?;
-        assert_eq!(rt; shown.as_str(), "https://host.example?q=a@b");
-        Ok(())
-    }
-}

@@ -75,22 +75,3 @@ pub fn usable_etag<'a>(
         Ok(None)
     }
 }
-
-#[cfg(test)]
-mod tests {
-    use super::*;
-    use std::test::Fail;
-
-    /// The SHA-256 of `abc` (FIPS 180-4, example "abc").
-    const ABC: &str = "ba7816bf8f01cfea414140de5dae2223b00361a396177a9cb410ff61f20015ad";
-
-    #[test]
-    fn validator_of_body(rt: HostRuntime) -> Result<(), Fail> {
-        let line = validator_line(rt.alloc(), b"abc", "W/\"x y\"")?;
-        let wanted = format!(in rt.alloc(); "{ABC} W/\"x y\"\n")?;
-        assert_eq!(rt; line.as_slice(), wanted.as_bytes());
-        assert_eq!(rt; usable_etag(rt.alloc(), b"abc", &line)?, Some("W/\"x y\""));
-        assert_eq!(rt; usable_etag(rt.alloc(), b"abd", &line)?, None);
-        Ok(())
-    }
-}

@@ -1,18 +1,27 @@
--- Device errors of a plan over an index: those of the store below the index, or none.
-use Rattle.std.proofs.Common.{Result, arith, inl, inr, refl, subst, ℕ, ◌≡◌}
+-- A plan over an index and over the store below it: device errors, and the model of the index.
+use Rattle.std.proofs.Common.{List, None, Option, Result, arith, inl, inr, refl, subst, sym, ℕ, ◌≡◌}
 use Rattle.std.proofs.lemmas.Result.{IfErr-weaker}
-use Rattle.std.specs.Prelude.{IfErr}
+use Rattle.std.specs.Prelude.{IfErr, String, string_bytes}
+use Rattle.std.specs.declared.alloc.Global.{Global}
 use Rattle.edit_base.specs.declared.errors.Error.{Error}
+use Rattle.edit_locked_index.proofs.RestrictedLemmas.{same_faults}
+use Rattle.edit_locked_index.specs.LockedIndex.{index_of, tests_of, view_of}
+use Rattle.edit_locked_index.specs.declared.locked_index.LockedIndex.{LockedIndex}
 use Rattle.edit_sources.specs.DirIndex.{dir_view, folder_of}
-use Rattle.edit_sources.specs.DirIndex.{store_of as folder_store}
+use Rattle.edit_sources.specs.DirIndex.{bound_of as folder_bound, files_of as folder_files, store_of as folder_store}
 use Rattle.edit_sources.specs.FileIndex.{file_view}
 use Rattle.edit_sources.specs.Index.{IndexView}
-use Rattle.edit_sources.specs.LocalIndex.{local_view, store_of}
+use Rattle.edit_sources.specs.LocalIndex.{bound_of, files_of, local_view, store_of}
+use Rattle.edit_sources.specs.Published.{published_view}
 use Rattle.edit_sources.specs.declared.file_index.FileIndex.{FileIndex}
 use Rattle.edit_sources.specs.declared.index_dir.dir_index.DirIndex.{DirIndex}
 use Rattle.edit_sources.specs.declared.local_index.LocalIndex.{LocalIndex}
+use Rattle.edit_sources.specs.declared.published.PublishedBefore.{PublishedBefore}
+use Rattle.edit_steps.specs.declared.upgrade_read.index.IndexSource.{IndexSource}
+use Rattle.edit_steps.specs.declared.upgrade_read.index.IndexSource.TheVariants as source
 use Rattle.edit_store.specs.Store.{StoreView, IsRaisedCount}
 use Rattle.edit_program.specs.Counted.{CountsIndexFault, CountsStoreFault}
+use Rattle.edit_program.specs.Planned.{index_view}
 
 -- a count of faults that stays 0 does not rise
 pub none_raised : IsRaisedCount 0 0 → ⊥
@@ -31,22 +40,35 @@ store_fails {I} {T} view index files store store_of e same is counts device =
           (subst (λ (n : ℕ). IsRaisedCount (view index).faults n) (same failed.0) failed.1)),
     )
 
+-- a restricted index fails only where the index below it does
+pub locked_fault : {I : Type 0} (view : I → IndexView) (locked : LockedIndex I) (index : I) (e : Error)
+    → index_of locked ≡ index → CountsIndexFault (view_of view) locked e → CountsIndexFault view index e
+locked_fault {I} view locked index e is counts device =
+    let failed = counts device in
+    let after = index_of failed.0 in
+    let old = same_faults (tests_of locked) (view (index_of locked)) in
+    let new = same_faults (tests_of failed.0) (view after) in
+    let raised : IsRaisedCount (view (index_of locked)).faults (view after).faults =
+    subst (λ (n : ℕ). IsRaisedCount n (view after).faults) old
+    (subst (λ (n : ℕ). IsRaisedCount (view_of view locked).faults n) new failed.1) in
+    (after, subst (λ (i : I). IsRaisedCount (view i).faults (view after).faults) is raised)
+
 -- a plan over the index in files
 pub local_fault : {T V : Type 0} (files : T → StoreView) (index : LocalIndex T) (store : T)
     (r : Result V Error) → store_of index ≡ store
-    → IfErr r (CountsIndexFault (λ (i : LocalIndex T). local_view (files i.store)) index)
+    → IfErr r (CountsIndexFault (λ (i : LocalIndex T). local_view (files_of files i)) index)
     → IfErr r (CountsStoreFault files store)
 local_fault {T} files index store r is counts =
-    IfErr-weaker r _ _ (λ e h. store_fails (λ (i : LocalIndex T). local_view (files i.store)) index files
+    IfErr-weaker r _ _ (λ e h. store_fails (λ (i : LocalIndex T). local_view (files_of files i)) index files
     store (λ (i : LocalIndex T). store_of i) e (λ i. refl) is h) counts
 
 -- a plan over a folder of registries
 pub folder_fault : {T V : Type 0} (files : T → StoreView) (index : DirIndex T) (store : T)
     (r : Result V Error) → folder_store index ≡ store
-    → IfErr r (CountsIndexFault (λ (i : DirIndex T). dir_view (folder_of i) (files i.store)) index)
+    → IfErr r (CountsIndexFault (λ (i : DirIndex T). dir_view (folder_of i) (folder_files files i)) index)
     → IfErr r (CountsStoreFault files store)
 folder_fault {T} files index store r is counts =
-    IfErr-weaker r _ _ (λ e h. store_fails (λ (i : DirIndex T). dir_view (folder_of i) (files i.store))
+    IfErr-weaker r _ _ (λ e h. store_fails (λ (i : DirIndex T). dir_view (folder_of i) (folder_files files i))
     index files store (λ (i : DirIndex T). folder_store i) e (λ i. refl) is h) counts
 
 -- a plan over the lines of a file, which fails for no device
@@ -55,3 +77,24 @@ pub lines_fault : {T V : Type 0} (files : T → StoreView) (index : FileIndex) (
     → IfErr r (CountsStoreFault files store)
 lines_fault files index store r counts =
     IfErr-weaker r _ _ (λ e h device. absurd (none_raised (h device).1)) counts
+
+-- what holds over an index in files without a bound holds over the index of the source that names it
+pub over_files : {T : Type 0} (files : T → StoreView) (index : LocalIndex T) (store : T) (named : IndexSource)
+    (P : IndexView → Type 0) → named ≡ source.Files → store_of index ≡ store → bound_of index ≡ None
+    → P (local_view (files_of files index)) → P (index_view named (files store))
+over_files {T} files index store named P at is unbound h =
+    subst (λ (i : IndexSource). P (index_view i (files store))) (sym at)
+    (subst (λ (s : T). P (local_view (files s))) is
+    (subst (λ (b : Option PublishedBefore). P (local_view (published_view b (files (store_of index))))) unbound h))
+
+-- what holds over a folder of registries without a bound holds over the index of the source that names it
+pub over_folder : {T : Type 0} (files : T → StoreView) (index : DirIndex T) (store : T) (named : IndexSource)
+    (folder : String Global) (P : IndexView → Type 0) → named ≡ source.Folder folder
+    → folder_store index ≡ store → folder_bound index ≡ None → folder_of index ≡ string_bytes folder
+    → P (dir_view (folder_of index) (folder_files files index)) → P (index_view named (files store))
+over_folder {T} files index store named folder P at is unbound same h =
+    subst (λ (i : IndexSource). P (index_view i (files store))) (sym at)
+    (subst (λ (f : List ℕ). P (dir_view f (files store))) same
+    (subst (λ (s : T). P (dir_view (folder_of index) (files s))) is
+    (subst (λ (b : Option PublishedBefore).
+    P (dir_view (folder_of index) (published_view b (files (folder_store index))))) unbound h)))

@@ -1,5 +1,5 @@
 -- Reading a lock file, and the files that are read after it.
-use Rattle.std.proofs.Common.{◌≡◌, ℕ, List, Option, Some, inl, inr, refl, subst, sym, true, ◌∙◌}
+use Rattle.std.proofs.Common.{◌≡◌, ℕ, Bool, List, Option, Some, inl, inr, refl, subst, sym, true, ◌∙◌}
 use Rattle.std.specs.Prelude.{◌⊎◌}
 use Rattle.edit_base.specs.Errors.{IsMemory}
 use Rattle.edit_base.specs.declared.errors.DeviceCall.TheVariants as call
@@ -11,33 +11,31 @@ use Rattle.edit_steps.specs.Absolute.{IsAbsoluteOf}
 use Rattle.edit_steps.specs.RequestView.{RequestView}
 use Rattle.edit_steps.specs.Causes.{IsReadCause, HasBadSources}
 use Rattle.edit_store.specs.Store.{Files, OnlyReads, IsCallError, StoreView}
-use Rattle.edit_program.specs.LockRead.{HasNoLock}
+use Rattle.edit_program.specs.LockRead.{HasNoLock, IsLockError}
 
 -- the bytes of a lock file are none
-pub bad_lock : (old new : StoreView) (current named path bytes : List ℕ) (e refused : Error)
+pub bad_lock : (required : Bool) (old new : StoreView) (current named path bytes : List ℕ) (e refused : Error)
     → IsAbsoluteOf current named path → (old.tells ≡ true → old.file_at path ≡ Some bytes)
     → IsMemory e ⊎ ((e ≡ Metadata) × IsNoLock bytes) → refused ≡ e
     → IsCallError call.Read old new refused
-    ⊎ (old.tells ≡ true → HasNoLock old.file_at current (Some named) refused)
-bad_lock old new current named path bytes e refused at stands (inl memory) same =
+    ⊎ (old.tells ≡ true → HasNoLock required old.file_at current (Some named) refused)
+bad_lock required old new current named path bytes e refused at stands (inl memory) same =
     inl (inl (subst IsMemory (sym same) memory))
-bad_lock old new current named path bytes e refused at stands (inr bad) same = inr (λ t. record {
+bad_lock required old new current named path bytes e refused at stands (inr bad) same = inr (λ t. record {
   named = named;
   is = refl;
   path = path;
   at = at;
-  bytes = bytes;
-  stands = stands t;
-  bad = bad.1;
-  error = same ∙ bad.0;
+  cause = subst (λ (o : Option (List ℕ)). IsLockError required o refused) (sym (stands t)) (same ∙ bad.0, bad.1);
 })
 
 -- a lock file that is named is not read
-pub lock_refused : (old new : StoreView) (current : List ℕ) (home lock : Option (List ℕ)) (a : RequestView) (e : Error)
-    → IsCallError call.Read old new e ⊎ (old.tells ≡ true → HasNoLock old.file_at current lock e)
-    → IsReadCause current home a old new e ⊎ (old.tells ≡ true → HasNoLock old.file_at current lock e)
-lock_refused old new current home lock a e (inl refused) = inl (inl (inr refused))
-lock_refused old new current home lock a e (inr none) = inr none
+pub lock_refused : (required : Bool) (old new : StoreView) (current : List ℕ) (home lock : Option (List ℕ))
+    (a : RequestView) (e : Error)
+    → IsCallError call.Read old new e ⊎ (old.tells ≡ true → HasNoLock required old.file_at current lock e)
+    → IsReadCause current home a old new e ⊎ (old.tells ≡ true → HasNoLock required old.file_at current lock e)
+lock_refused required old new current home lock a e (inl refused) = inl (inl (inr refused))
+lock_refused required old new current home lock a e (inr none) = inr none
 
 -- what is read behind reads is not
 pub cause_after : (old mid new : StoreView) (current : List ℕ) (home : Option (List ℕ)) (a : RequestView) (e : Error)

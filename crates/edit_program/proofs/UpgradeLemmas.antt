@@ -6,6 +6,7 @@ use Rattle.edit_base.specs.declared.errors.Error.{Error}
 use Rattle.edit_lock.specs.LockFile.{Package}
 use Rattle.edit_lock.specs.Views.{lock_view}
 use Rattle.edit_lock.specs.declared.lock.Lock.{Lock}
+use Rattle.edit_locked_index.specs.LockedIndex.{locked_view}
 use Rattle.edit_metadata.specs.Metadata.{WorkspaceModel}
 use Rattle.edit_metadata.specs.Workspaces.{workspace_view}
 use Rattle.edit_metadata.specs.declared.input.Input.{Input}
@@ -30,19 +31,40 @@ use Rattle.edit_program.specs.Delivered.{AreBothWritten, HaveStopped, IsDelivery
 use Rattle.edit_program.specs.Delivery.{Delivery, calls_against, calls_of}
 use Rattle.edit_program.specs.LockRead.{HasNoLock, IsLockRead}
 use Rattle.edit_program.specs.UpgradeCauses.{IsUpgradeCause}
-use Rattle.edit_program.specs.Planned.{IsPlanCause, to_request, index_view}
+use Rattle.edit_program.specs.Planned.{IsPlanCause, IsPlanned, index_view, restriction, to_request, upgrade_index}
 use Rattle.edit_program.specs.Run.{run_at}
 use Rattle.edit_program.specs.StderrText.{upgrade_stderr_text}
-use Rattle.edit_program.specs.Upgrading.{IsUpgradeResult, IsBroken, IsPathOf, IsPlannedFor, IsRead, IsUpgraded, delivery_by, diff_root, has_outputs}
+use Rattle.edit_program.specs.Upgrading.{IsUpgradeResult, IsBroken, IsPathOf, IsPlannedFor, IsRead, IsUpgraded, called_workspace, delivery_by, diff_root, has_outputs}
 use Rattle.edit_program.specs.declared.upgrade_run.upgrade_args.UpgradeArgs.{UpgradeArgs}
 
 -- the outputs of a plan go to paths of their own
-pub plan_paths : (args : UpgradeArgs) (s : Sources) (local : StoreView) (plan : UpgradePlan)
-    → HaveOwnPaths s.target.inputs.items → IsPlannedFor args s local plan
+pub plan_paths : (args : UpgradeArgs) (s : Sources) (lock : Option (List Package)) (local : StoreView)
+    (plan : UpgradePlan) → HaveOwnPaths s.target.inputs.items → IsPlannedFor args s lock local plan
     → HaveDistinctPaths plan.outputs.items
-plan_paths args s local plan own planned =
+plan_paths args s lock local plan own planned =
     outputs_differ (λ path. not (length (outputs_at path plan) == 0)) s.target.inputs.items plan.outputs.items
     own planned.is.outputs_in_order
+
+-- a plan over the index that is restricted to packages, where these are those of the arguments
+pub planned_for : (args : UpgradeArgs) (s : Sources) (local : StoreView) (plan : UpgradePlan)
+    (packages lock : Option (List Package)) → packages ≡ restriction args.to_lockfile lock
+    → IsPlanned args.options s.target.inputs.items (lists_for s.configs)
+    (locked_view packages (index_view s.index local)) plan
+    → IsPlannedFor args s lock local plan
+planned_for args s local plan packages lock is planned =
+    subst (λ (ps : Option (List Package)). IsPlanned args.options s.target.inputs.items (lists_for s.configs)
+    (locked_view ps (index_view s.index local)) plan) is planned
+
+-- and one that is refused
+pub unplanned_for : (args : UpgradeArgs) (s : Sources) (local : StoreView) (e : Error)
+    (packages lock : Option (List Package)) → packages ≡ restriction args.to_lockfile lock
+    → IsMemory e ⊎ IsPlanCause args.options s.target.inputs.items (lists_for s.configs)
+    (locked_view packages (index_view s.index local)) e
+    → IsMemory e ⊎ IsPlanCause args.options s.target.inputs.items (lists_for s.configs)
+    (upgrade_index args lock s.index local) e
+unplanned_for args s local e packages lock is refused =
+    subst (λ (ps : Option (List Package)). IsMemory e ⊎ IsPlanCause args.options s.target.inputs.items
+    (lists_for s.configs) (locked_view ps (index_view s.index local)) e) is refused
 
 -- what is said of a workspace that is borrowed
 same_workspace : (r : Option (Bor Workspace)) (w : Option Workspace) → option_copied r ≡ w
@@ -56,16 +78,17 @@ pub same_lock : (r : Option (Bor Lock)) (lock : Option Lock) → option_copied r
 same_lock None lock is = ap (option_map lock_view) is
 same_lock (Some l) lock is = ap (option_map lock_view) is
 
--- a plan for these manifests as the arguments ask for it, where diffs name files from this folder
+-- a plan for these manifests as the arguments ask for it, where diffs name files from this folder and calls
+-- follow for this workspace
 abbrev delivery_at : UpgradeArgs → UpgradePlan → List Input → Option WorkspaceModel → List ℕ → Option (List ℕ)
     → Option (List Package) → Delivery
-delivery_at args plan inputs workspace root path lock = record {
+delivery_at args plan inputs called root path lock = record {
   plan = plan;
   inputs = inputs;
   options = args.options;
   current = root;
   presentation = args.presentation;
-  calls = calls_against lock args.offline (calls_of plan args.options workspace);
+  calls = calls_against lock args.offline (calls_of plan args.options called);
   calls_path = path;
   offline = args.offline;
 }
@@ -73,16 +96,19 @@ delivery_at args plan inputs workspace root path lock = record {
 -- what is delivered is what the arguments ask for
 pub same_delivery : (args : UpgradeArgs) (current root : List ℕ) (plan : UpgradePlan) (target : Target)
     (path : Option (List ℕ)) (lock : Option (List Package)) (inputs : List Input) (r : Option (Bor Workspace))
+    (called : Option WorkspaceModel)
     → root ≡ diff_root current (option_map (λ x. workspace_view x.now) r)
     → inputs ≡ target.inputs.items → option_copied r ≡ target.workspace
-    → delivery_at args plan inputs (option_map (λ x. workspace_view x.now) r) root path lock
-    ≡ delivery_by args current plan target path lock
-same_delivery args current root plan target path lock inputs r from same is =
+    → called ≡ called_workspace args.to_lockfile (option_map (λ x. workspace_view x.now) r)
+    → delivery_at args plan inputs called root path lock ≡ delivery_by args current plan target path lock
+same_delivery args current root plan target path lock inputs r called from same is calls =
     let workspace = option_map (λ (x : Bor Workspace). workspace_view x.now) r in
-    ap (λ (folder : List ℕ). delivery_at args plan inputs workspace folder path lock) from
-    ∙ ap (λ (xs : List Input). delivery_at args plan xs workspace (diff_root current workspace) path lock) same
-    ∙ ap (λ (w : Option WorkspaceModel). delivery_at args plan target.inputs.items w (diff_root current w) path lock)
-    (same_workspace r target.workspace is)
+    let of = called_workspace args.to_lockfile in
+    ap (λ (w : Option WorkspaceModel). delivery_at args plan inputs w root path lock) calls
+    ∙ ap (λ (folder : List ℕ). delivery_at args plan inputs (of workspace) folder path lock) from
+    ∙ ap (λ (xs : List Input). delivery_at args plan xs (of workspace) (diff_root current workspace) path lock) same
+    ∙ ap (λ (w : Option WorkspaceModel). delivery_at args plan target.inputs.items (of w) (diff_root current w)
+    path lock) (same_workspace r target.workspace is)
 
 -- a plan was delivered, and the answer is whether it changes a manifest
 pub answered : (due : Bool) (HasFields HasDecodedValue : List ℕ → Type 0) (old new : StoreView) (task d : Delivery) → task ≡ d
@@ -113,9 +139,9 @@ printed_after Leaves HasFields d old mid new after printed = record {
 pub upgraded : (due : Bool) (HasFields HasDecodedValue : List ℕ → Type 0) (args : UpgradeArgs) (current : List ℕ)
     (home : Option (List ℕ)) (local old mid new : StoreView) (s : Sources) (plan : UpgradePlan)
     (path : Option (List ℕ)) (lock : Option (List Package)) → OnlyReads old mid
-    → (old.tells ≡ true → IsRead args current home old.file_at s) → IsPlannedFor args s local plan
+    → (old.tells ≡ true → IsRead args current home old.file_at s) → IsPlannedFor args s lock local plan
     → IsPathOf current (given args.update_calls) path
-    → (old.tells ≡ true → IsLockRead old.file_at current (given args.lock_file) lock)
+    → (old.tells ≡ true → IsLockRead args.to_lockfile old.file_at current (given args.lock_file) lock)
     → IsUpgradeResult due HasFields HasDecodedValue mid new (delivery_by args current plan s.target path lock)
     → old.tells ≡ true → IsUpgraded due HasFields HasDecodedValue args (run_at current home local old new)
 upgraded due HasFields HasDecodedValue args current home local old mid new s plan path lock reads read planned at locked answered
@@ -154,9 +180,9 @@ cut_after HasFields d old mid new reads (inr whole) =
 pub broken : (HasFields : List ℕ → Type 0) (args : UpgradeArgs) (current : List ℕ)
     (home : Option (List ℕ)) (local old mid new : StoreView) (s : Sources) (plan : UpgradePlan)
     (path : Option (List ℕ)) (lock : Option (List Package)) → OnlyReads old mid
-    → (old.tells ≡ true → IsRead args current home old.file_at s) → IsPlannedFor args s local plan
+    → (old.tells ≡ true → IsRead args current home old.file_at s) → IsPlannedFor args s lock local plan
     → IsPathOf current (given args.update_calls) path
-    → (old.tells ≡ true → IsLockRead old.file_at current (given args.lock_file) lock)
+    → (old.tells ≡ true → IsLockRead args.to_lockfile old.file_at current (given args.lock_file) lock)
     → SameFiles mid.file_at new.file_at
     ⊎ IsDeliveryInterrupted HasFields (delivery_by args current plan s.target path lock) mid new
     → old.tells ≡ true
@@ -191,7 +217,7 @@ read_cause HasFields args current home local old new e same (inr wrong) =
 pub lock_cause : (HasFields : List ℕ → Type 0) (args : UpgradeArgs) (current : List ℕ) (home : Option (List ℕ))
     (local old new : StoreView) (e : Error) → SameFiles old.file_at new.file_at
     → IsReadCause current home (to_request args) old new e
-    ⊎ (old.tells ≡ true → HasNoLock old.file_at current (given args.lock_file) e)
+    ⊎ (old.tells ≡ true → HasNoLock args.to_lockfile old.file_at current (given args.lock_file) e)
     → IsUpgradeCause HasFields args (run_at current home local old new) e
 lock_cause HasFields args current home local old new e same (inl cause) =
     read_cause HasFields args current home local old new e same cause
@@ -200,19 +226,25 @@ lock_cause HasFields args current home local old new e same (inr none) =
 
 -- there is no plan for it
 pub plan_cause : (HasFields : List ℕ → Type 0) (args : UpgradeArgs) (current : List ℕ) (home : Option (List ℕ))
-    (local old new : StoreView) (s : Sources) (e : Error) → SameFiles old.file_at new.file_at
+    (local old new : StoreView) (s : Sources) (lock : Option (List Package)) (e : Error)
+    → SameFiles old.file_at new.file_at
     → (old.tells ≡ true → IsRead args current home old.file_at s)
+    → (old.tells ≡ true → IsLockRead args.to_lockfile old.file_at current (given args.lock_file) lock)
     → IsMemory e ⊎ IsPlanCause args.options s.target.inputs.items (lists_for s.configs)
-    (index_view s.index local) e
+    (upgrade_index args lock s.index local) e
     → IsUpgradeCause HasFields args (run_at current home local old new) e
-plan_cause HasFields args current home local old new s e same read (inl memory) = inl memory
-plan_cause HasFields args current home local old new s e same read (inr wrong) =
+plan_cause HasFields args current home local old new s lock e same read locked (inl memory) = inl memory
+plan_cause HasFields args current home local old new s lock e same read locked (inr wrong) =
     inr (inr (inr (inr (λ t. inl (
       same,
       inr (inr (record {
-        sources = s;
-        read = read t;
-        cause = wrong;
+        lock = lock;
+        locked = locked t;
+        unplanned = record {
+          sources = s;
+          read = read t;
+          cause = wrong;
+        };
       })),
     )))))
 
@@ -233,9 +265,9 @@ pub stop_cause : (HasFields : List ℕ → Type 0) (args : UpgradeArgs) (current
     (local old mid new : StoreView) (s : Sources) (plan : UpgradePlan) (path : Option (List ℕ))
     (lock : Option (List Package)) (e : Error)
     → OnlyReads old mid
-    → (old.tells ≡ true → IsRead args current home old.file_at s) → IsPlannedFor args s local plan
+    → (old.tells ≡ true → IsRead args current home old.file_at s) → IsPlannedFor args s lock local plan
     → IsPathOf current (given args.update_calls) path
-    → (old.tells ≡ true → IsLockRead old.file_at current (given args.lock_file) lock)
+    → (old.tells ≡ true → IsLockRead args.to_lockfile old.file_at current (given args.lock_file) lock)
     → IsDeliveryCause HasFields (delivery_by args current plan s.target path lock) mid new e
     → IsUpgradeCause HasFields args (run_at current home local old new) e
 stop_cause HasFields args current home local old mid new s plan path lock e reads read planned at locked

@@ -48,7 +48,8 @@ pub record HasOptions (rows : List Row) (o : Options) : Type 0 where
       ≡ option_map (λ v. bytes_eq v (codes "true")) (first_of (codes "recursive") rows)
   pub verbosity : o.verbosity
       ≡ verbosity_of (count_of (codes "verbose") rows) (count_of (codes "quiet") rows)
-  pub never_lower : o.never_lower ≡ is_given (codes "never-lower") rows
+  pub never_lower : o.never_lower
+      ≡ (is_given (codes "never-lower") rows || is_given (codes "to-lockfile") rows)
   pub packages : package_args_of o ≡ values_of (codes "package") rows
   pub exclusions : excluded_of o ≡ values_of (codes "exclude") rows
 

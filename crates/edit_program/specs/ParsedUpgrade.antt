@@ -1,5 +1,5 @@
 -- The arguments of `upgrade` and of `looks`.
-use Rattle.std.specs.Prelude.{◌≡◌, ◌⊎◌, ◌&&◌, List, Bool, Option, Some, None, codes, is_some, true, false}
+use Rattle.std.specs.Prelude.{◌≡◌, ◌⊎◌, ◌&&◌, ◌||◌, List, Bool, Option, Some, None, codes, is_some, not, true, false}
 use Rattle.clap.specs.Words.{Row, Text, first_of}
 use Rattle.edit_sources.specs.Configured.{given}
 use Rattle.edit_steps.specs.declared.upgrade_read.source_request.RustChoice.{RustChoice}
@@ -7,7 +7,7 @@ use Rattle.edit_steps.specs.declared.upgrade_read.source_request.RustChoice.TheV
 use Rattle.edit_program.specs.declared.upgrade_run.upgrade_args.UpgradeArgs.{UpgradeArgs}
 use Rattle.edit_version.specs.RustVersions.{numbers_of, rust_of}
 use Rattle.edit_version.specs.declared.rust_version.RustVersion.{RustVersion}
-use Rattle.edit_program.specs.ParsedOptions.{HasOptions, HasBadStatus, is_given}
+use Rattle.edit_program.specs.ParsedOptions.{HasOptions, HasBadStatus, is_given, status_of}
 use Rattle.edit_program.specs.Presented.{presentation_of}
 use Rattle.edit_program.specs.declared.output_format.PlanCommand.TheVariants.{Upgrade}
 
@@ -31,6 +31,17 @@ abbrev pub has_two_indexes : List Row → Bool
 has_two_indexes rows =
     is_some (first_of (codes "index-file") rows) && is_some (first_of (codes "index-dir") rows)
 
+-- `--to-lockfile` cannot be used: no lock file is given, or incompatible upgrades are allowed
+abbrev pub has_lockfile_fault : Bool → List Row → Bool
+has_lockfile_fault incompatible rows =
+    is_given (codes "to-lockfile") rows && (not (is_some (first_of (codes "lock-file") rows)) || incompatible)
+
+-- `--to-lockfile` is given, and cannot be used
+pub record HasLockfileFault (rows : List Row) : Type 0 where
+  pub incompatible : Bool
+  pub status : status_of (codes "incompatible") rows ≡ Some incompatible
+  pub fault : has_lockfile_fault incompatible rows ≡ true
+
 -- the options and paths that parsed arguments of `upgrade` give
 pub record HasUpgradeArgs (rows : List Row) (w : UpgradeArgs) : Type 0 where
   pub manifest : given w.manifest_path ≡ first_of (codes "manifest-path") rows
@@ -47,12 +58,14 @@ pub record HasUpgradeArgs (rows : List Row) (w : UpgradeArgs) : Type 0 where
   pub calls : given w.update_calls ≡ first_of (codes "update-calls") rows
   pub lock : given w.lock_file ≡ first_of (codes "lock-file") rows
   pub offline : w.offline ≡ is_given (codes "offline") rows
+  pub to_lockfile : w.to_lockfile ≡ is_given (codes "to-lockfile") rows
+  pub usable : has_lockfile_fault w.options.incompatible rows ≡ false
 
--- two indexes are given, an option has an invalid value, or the options for Rust versions or for the output
--- format are invalid
+-- two indexes are given, an option has an invalid value, the options for Rust versions or for the output
+-- format are invalid, or `--to-lockfile` cannot be used
 abbrev pub HaveUpgradeFault : List Row → Type 0
 HaveUpgradeFault rows =
     (has_two_indexes rows ≡ true)
     ⊎ (HasBadStatus rows
     ⊎ (HasNoRust (first_of (codes "rust-version") rows) (is_given (codes "ignore-rust-version") rows)
-    ⊎ (presentation_of Upgrade rows ≡ None)))
+    ⊎ ((presentation_of Upgrade rows ≡ None) ⊎ HasLockfileFault rows)))

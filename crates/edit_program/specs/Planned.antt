@@ -1,7 +1,9 @@
 -- The files that an upgrade reads, and its plan over them.
-use Rattle.std.specs.Prelude.{ℕ, List, None, string_bytes}
+use Rattle.std.specs.Prelude.{ℕ, List, [], Bool, Option, Some, None, if◌then◌else◌, string_bytes, unwrap_or}
 use Rattle.std.specs.Global.{Vec}
 use Rattle.edit_base.specs.declared.errors.Error.{Error}
+use Rattle.edit_lock.specs.LockFile.{Package}
+use Rattle.edit_locked_index.specs.LockedIndex.{locked_view}
 use Rattle.edit_sources.specs.DirIndex.{dir_view}
 use Rattle.edit_metadata.specs.declared.input.Input.{Input}
 use Rattle.edit_sources.specs.Configured.{given}
@@ -53,6 +55,15 @@ abbrev pub index_view : IndexSource → StoreView → IndexView
 index_view source.Files local = local_view local
 index_view (source.Lines index) local = file_view index
 index_view (source.Folder folder) local = dir_view (string_bytes folder) local
+
+-- the packages to which an upgrade is restricted: with `--to-lockfile` those of the lock file
+abbrev pub restriction : Bool → Option (List Package) → Option (List Package)
+restriction to_lockfile lock = if to_lockfile then Some (unwrap_or lock []) else None
+
+-- the index of an upgrade, with `--to-lockfile` restricted to the packages of the lock file
+abbrev pub upgrade_index : UpgradeArgs → Option (List Package) → IndexSource → StoreView → IndexView
+upgrade_index args lock index local =
+    locked_view (restriction args.to_lockfile lock) (index_view index local)
 
 -- an empty cache
 abbrev pub empty_answers : CachedAnswers

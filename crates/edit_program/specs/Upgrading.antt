@@ -1,5 +1,5 @@
 -- The files that an upgrade reads and writes, and its plan.
-use Rattle.std.specs.Prelude.{◌≡◌, ℕ, List, Bool, not, ◌==◌, Option, Some, None, length, option_map, ⊤}
+use Rattle.std.specs.Prelude.{◌≡◌, ℕ, List, Bool, if◌then◌else◌, not, ◌==◌, Option, Some, None, length, option_map, ⊤}
 use Rattle.edit_lock.specs.LockFile.{Package}
 use Rattle.std.specs.Option.{option_map_or}
 use Rattle.edit_metadata.specs.Metadata.{WorkspaceModel}
@@ -12,7 +12,7 @@ use Rattle.edit_steps.specs.Shared.{lists_for}
 use Rattle.edit_steps.specs.Sources.{AreRead}
 use Rattle.edit_steps.specs.declared.upgrade_read.sources.Sources.{Sources}
 use Rattle.edit_steps.specs.declared.upgrade_read.target.Target.{Target}
-use Rattle.edit_program.specs.Planned.{IsPlanned, to_request, index_view}
+use Rattle.edit_program.specs.Planned.{IsPlanned, to_request, upgrade_index}
 use Rattle.edit_program.specs.declared.upgrade_run.upgrade_args.UpgradeArgs.{UpgradeArgs}
 use Rattle.edit_program.specs.Delivered.{IsDeliveryInterrupted, IsDelivered}
 use Rattle.edit_program.specs.Delivery.{Delivery, calls_against, calls_of}
@@ -24,10 +24,12 @@ use Rattle.edit_program.specs.StderrText.{upgrade_stderr_text}
 abbrev pub IsRead : UpgradeArgs → List ℕ → Option (List ℕ) → Files → Sources → Type 0
 IsRead args current home files s = AreRead files current home (to_request args) s
 
--- the plan for the files that were read, over their index
-abbrev pub IsPlannedFor : UpgradeArgs → Sources → StoreView → UpgradePlan → Type 0
-IsPlannedFor args s local plan =
-    IsPlanned args.options s.target.inputs.items (lists_for s.configs) (index_view s.index local) plan
+-- the plan for the files that were read, over their index, which `--to-lockfile` restricts to these
+-- packages
+abbrev pub IsPlannedFor : UpgradeArgs → Sources → Option (List Package) → StoreView → UpgradePlan → Type 0
+IsPlannedFor args s lock local plan =
+    IsPlanned args.options s.target.inputs.items (lists_for s.configs) (upgrade_index args lock s.index local)
+    plan
 
 -- the absolute path of a given file; none where none is given
 abbrev pub IsPathOf : List ℕ → Option (List ℕ) → Option (List ℕ) → Type 0
@@ -40,6 +42,11 @@ IsPathOf current _ _ = ⊥
 abbrev pub diff_root : List ℕ → Option WorkspaceModel → List ℕ
 diff_root current workspace = option_map_or (λ w. w.root) workspace current
 
+-- the workspace for which calls of `cargo update` follow: none with `--to-lockfile`, which leaves the lock
+-- file as it is
+abbrev pub called_workspace : Bool → Option WorkspaceModel → Option WorkspaceModel
+called_workspace to_lockfile workspace = if to_lockfile then None else workspace
+
 -- a plan for these manifests, as the arguments request it to be printed, with this path for the file of the
 -- calls, which are adapted to the lock file with these packages, where there is one
 abbrev pub delivery_by : UpgradeArgs → List ℕ → UpgradePlan → Target → Option (List ℕ) → Option (List Package)
@@ -51,7 +58,8 @@ delivery_by args current plan target path lock = record {
   current = diff_root current (option_map workspace_view target.workspace);
   presentation = args.presentation;
   calls = calls_against lock args.offline
-      (calls_of plan args.options (option_map workspace_view target.workspace));
+      (calls_of plan args.options
+      (called_workspace args.to_lockfile (option_map workspace_view target.workspace)));
   calls_path = path;
   offline = args.offline;
 }
@@ -64,9 +72,9 @@ pub record IsPlannedTo (Ends : Delivery → Type 0) (args : UpgradeArgs) (curren
   pub path : Option (List ℕ)
   pub lock : Option (List Package)
   pub read : IsRead args current home files sources
-  pub planned : IsPlannedFor args sources local plan
+  pub planned : IsPlannedFor args sources lock local plan
   pub at : IsPathOf current (given args.update_calls) path
-  pub locked : IsLockRead files current (given args.lock_file) lock
+  pub locked : IsLockRead args.to_lockfile files current (given args.lock_file) lock
   pub ends : Ends (delivery_by args current plan sources.target path lock)
 
 -- the plan changes a manifest

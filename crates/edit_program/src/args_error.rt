@@ -11,6 +11,8 @@ use std::fmt;
 pub(crate) enum ArgsFault<'a> {
     /// Two arguments that cannot be used together.
     Together(&'static str, &'static str),
+    /// An argument that needs another one, which is not given.
+    Needs(&'static str, &'static str),
     /// An option, its valid values, and the invalid one that is given.
     Value(&'static str, &'static str, &'a str),
     /// A text that is no version of Rust, and why.
@@ -27,6 +29,7 @@ impl fmt::Display for ArgsFault<'_> {
             ArgsFault::Together(one, other) => {
                 write!(f, "the argument '{one}' cannot be used with '{other}'")
             }
+            ArgsFault::Needs(one, other) => { write!(f, "the argument '{one}' needs '{other}'") }
             ArgsFault::Value(option, values, value) => {
                 write!(f, "invalid value '{value}' for '--{option} <{values}>'")
             }

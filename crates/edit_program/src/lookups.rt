@@ -1,6 +1,6 @@
 //! Values of options in parsed arguments.
-ghost use Rattle.std.specs.Prelude.{◌≡◌, IfOk, map, string_bytes};
-ghost use Rattle.clap.specs.Words.{found_of, rows_of};
+ghost use Rattle.std.specs.Prelude.{◌≡◌, ◌||◌, IfOk, is_some, map, string_bytes};
+ghost use Rattle.clap.specs.Words.{first_of, found_of, rows_of};
 ghost use Rattle.edit_program.specs.ParsedOptions.{is_given, values_of};
 
 use clap::ArgMatches;
@@ -11,6 +11,24 @@ pub(crate) fn is_given(matches: &ArgMatches<'_>, id: &str) -> bool
     ensures { result ≡ is_given id.now (rows_of (found_of matches.now)) }
 {
     matches.get_str(id).unwrap_or("") == "true"
+}
+
+/// Whether one of two flags is given.
+pub(crate) fn is_either_given(matches: &ArgMatches<'_>, one: &str, other: &str) -> bool
+    ensures { result ≡ (is_given one.now (rows_of (found_of matches.now))
+        || is_given other.now (rows_of (found_of matches.now))) }
+{
+    if is_given(matches, one) {
+        return true;
+    }
+    is_given(matches, other)
+}
+
+/// Whether an option has a value.
+pub(crate) fn has_value(matches: &ArgMatches<'_>, id: &str) -> bool
+    ensures { result ≡ is_some (first_of id.now (rows_of (found_of matches.now))) }
+{
+    matches.get_str(id).is_some()
 }
 
 /// Copies texts into newly allocated memory.

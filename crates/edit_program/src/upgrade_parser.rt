@@ -1,13 +1,13 @@
 //! The options and paths that parsed arguments of `upgrade` give.
-ghost use Rattle.std.specs.Prelude.{◌≡◌, ◌≢◌, IfErr, IfOk, None, Some, codes, false, map, option_map, string_bytes};
+ghost use Rattle.std.specs.Prelude.{◌≡◌, ◌≢◌, IfErr, IfOk, None, Some, codes, false, map, option_map, string_bytes, true};
 ghost use Rattle.std.specs.Str.{bytes_eq};
 ghost use Rattle.clap.specs.Words.{first_of, found_of, rows_of};
 ghost use Rattle.edit_program.specs.declared.args_error.ArgsError.TheVariants as parse_error;
-ghost use Rattle.edit_program.specs.ParsedOptions.{HasOptions, HasBadStatus, status_of, status_of_value, verbosity_of};
-ghost use Rattle.edit_program.specs.ParsedUpgrade.{HasUpgradeArgs, HasNoRust, HaveUpgradeFault, IsRust, has_two_indexes};
+ghost use Rattle.edit_program.specs.ParsedOptions.{HasOptions, HasBadStatus, is_given, status_of, status_of_value, verbosity_of};
+ghost use Rattle.edit_program.specs.ParsedUpgrade.{HasUpgradeArgs, HasNoRust, HaveUpgradeFault, IsRust, has_lockfile_fault, has_two_indexes};
 
 use crate::args_error::{ArgsError, ArgsFault};
-use crate::lookups::{is_given, values_of};
+use crate::lookups::{has_value, is_either_given, is_given, values_of};
 use crate::output_format::{PlanCommand, is_dry, presentation};
 use crate::upgrade_run::UpgradeArgs;
 use clap::ArgMatches;
@@ -111,7 +111,7 @@ fn options_of<'a>(alloc: Global, matches: &ArgMatches<'a>) -> Result<Options, Ar
         locked: is_given(matches, "locked"),
         recursive: recursive_option(matches),
         verbosity: verbosity(matches.get_count("verbose"), matches.get_count("quiet")),
-        never_lower: is_given(matches, "never-lower"),
+        never_lower: is_either_given(matches, "never-lower", "to-lockfile"),
     })
 }
 
@@ -122,6 +122,27 @@ fn has_two_indexes(matches: &ArgMatches<'_>) -> bool
     let file = matches.get_str("index-file").is_some();
     let folder = matches.get_str("index-dir").is_some();
     file && folder
+}
+
+/// Whether requirements are raised only to versions of the lock file; an error where no lock file is given,
+/// and where incompatible upgrades are allowed.
+fn to_lockfile<'a>(matches: &ArgMatches<'a>, incompatible: bool) -> Result<bool, ArgsError<'a>>
+    ensures given { IfOk result (λ to. to ≡ is_given (codes "to-lockfile") (rows_of (found_of matches.now))) }
+    ensures usable { IfOk result (λ _.
+        has_lockfile_fault incompatible (rows_of (found_of matches.now)) ≡ false) }
+    ensures error { IfErr result (λ _.
+        has_lockfile_fault incompatible (rows_of (found_of matches.now)) ≡ true) }
+{
+    if !is_given(matches, "to-lockfile") {
+        return Ok(false);
+    }
+    if !has_value(matches, "lock-file") {
+        return Err(ArgsError::Fault(ArgsFault::Needs("--to-lockfile", "--lock-file <FILE>")));
+    }
+    if incompatible {
+        return Err(ArgsError::Fault(ArgsFault::Together("--to-lockfile", "--incompatible allow")));
+    }
+    Ok(true)
 }
 
 /// The options and paths that parsed arguments of `upgrade` give.
@@ -142,6 +163,8 @@ pub(crate) fn parse_upgrade_args<'a>(
     let ignored = is_given(matches, "ignore-rust-version");
     let rust = rust_choice(alloc, matches.get_str("rust-version"), ignored)?;
     let presentation = presentation(matches, PlanCommand::Upgrade)?;
+    let options = options_of(alloc, matches)?;
+    let to_lockfile = to_lockfile(matches, options.incompatible)?;
     Ok(UpgradeArgs {
         manifest_path: matches.get_str("manifest-path"),
         metadata_json: matches.get_str("metadata-json"),
@@ -150,10 +173,11 @@ pub(crate) fn parse_upgrade_args<'a>(
         config: matches.get_str("config"),
         default_config: matches.get_str("default-config"),
         rust,
-        options: options_of(alloc, matches)?,
+        options,
         presentation,
         update_calls: matches.get_str("update-calls"),
         lock_file: matches.get_str("lock-file"),
         offline: is_given(matches, "offline"),
+        to_lockfile,
     })
 }

@@ -1,5 +1,5 @@
 -- The results of a lookup in a folder of registries (Cargo reference, "Registries", index format).
-use Rattle.std.specs.Prelude.{◌≡◌, ℕ, List, Some, None, Ok, Err, true, false, ◌⊎◌, string_bytes}
+use Rattle.std.specs.Prelude.{◌≡◌, ℕ, List, Option, Some, None, Ok, Err, true, false, ◌⊎◌, string_bytes}
 use Rattle.url.specs.Parts.{Parts}
 use Rattle.edit_version.specs.IndexEntry.{IndexEntry}
 use Rattle.edit_sources.specs.Index.{IndexView, Outcome, bad_line, bad_name}
@@ -8,7 +8,9 @@ use Rattle.edit_sources.specs.LocalIndex.{HasBytesIn}
 use Rattle.edit_sources.specs.Names.{is_crate_name}
 use Rattle.edit_store.specs.Store.{StoreView}
 use Rattle.edit_sources.specs.Folders.{entry_path}
+use Rattle.edit_sources.specs.Published.{published_view}
 use Rattle.edit_sources.specs.declared.index_dir.dir_index.DirIndex.{DirIndex}
+use Rattle.edit_sources.specs.declared.published.PublishedBefore.{PublishedBefore}
 
 -- the store that holds the index (own)
 abbrev pub store_of : {S : Type 0} → DirIndex S → S
@@ -17,6 +19,14 @@ store_of index = index.store
 -- the folder of an index (own)
 abbrev pub folder_of : {S : Type 0} → DirIndex S → List ℕ
 folder_of index = string_bytes index.folder
+
+-- the bound on the time of publication, if there is one (own)
+abbrev pub bound_of : {S : Type 0} → DirIndex S → Option PublishedBefore
+bound_of index = index.bound
+
+-- the view of the store below an index, with the versions that the bound admits (own)
+abbrev pub files_of : {S : Type 0} → (S → StoreView) → DirIndex S → StoreView
+files_of view index = published_view (bound_of index) (view (store_of index))
 
 -- the crate has no file in the folder of the registry (own)
 pub record HasNoFile (folder : List ℕ) (store : StoreView) (address : Parts) (name : List ℕ) : Type 0 where

@@ -1,5 +1,5 @@
 -- The results of a lookup in an index of one file per crate (Cargo reference, "Registries", index format).
-use Rattle.std.specs.Prelude.{◌≡◌, ℕ, ◌-◌, List, ◌++◌, Some, None, Ok, Err, Bool, true, false, codes, length, slice_index, ◌⊎◌, ◌==◌, if◌then◌else◌}
+use Rattle.std.specs.Prelude.{◌≡◌, ℕ, ◌-◌, List, ◌++◌, Option, Some, None, Ok, Err, Bool, true, false, codes, length, slice_index, ◌⊎◌, ◌==◌, if◌then◌else◌}
 use Rattle.std.specs.List.{list_any}
 use Rattle.std.specs.Str.{IsUtf8}
 use Rattle.percent_encoding.specs.Percent.{percent_decode}
@@ -9,11 +9,21 @@ use Rattle.edit_sources.specs.Index.{IndexView, LookupError, Outcome, bad_scheme
 use Rattle.edit_sources.specs.IndexLines.{HaveEntriesInOrder, IsBadLine, lines_of}
 use Rattle.edit_sources.specs.Names.{is_crate_name, layout}
 use Rattle.edit_store.specs.Store.{StoreView}
+use Rattle.edit_sources.specs.Published.{published_view}
 use Rattle.edit_sources.specs.declared.local_index.LocalIndex.{LocalIndex}
+use Rattle.edit_sources.specs.declared.published.PublishedBefore.{PublishedBefore}
 
 -- the store that holds the index (own)
 abbrev pub store_of : {S : Type 0} → LocalIndex S → S
 store_of index = index.store
+
+-- the bound on the time of publication, if there is one (own)
+abbrev pub bound_of : {S : Type 0} → LocalIndex S → Option PublishedBefore
+bound_of index = index.bound
+
+-- the view of the store below an index, with the versions that the bound admits (own)
+abbrev pub files_of : {S : Type 0} → (S → StoreView) → LocalIndex S → StoreView
+files_of view index = published_view (bound_of index) (view (store_of index))
 
 -- a URL of the scheme `file` (RFC 8089, section 2)
 abbrev pub IsFileAddress : Parts → Type 0

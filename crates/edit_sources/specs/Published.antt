@@ -1,5 +1,5 @@
 -- Index lines of versions that were published at or before a bound (Cargo reference, "Registries", pubtime).
-use Rattle.std.specs.Prelude.{ℕ, ℤ, List, [], ◌∷◌, Option, Some, None, option_and_then, Bool, false, not, codes, map, int_le, ◌&&◌, if◌then◌else◌}
+use Rattle.std.specs.Prelude.{ℕ, ℤ, List, [], ◌∷◌, Option, Some, None, option_and_then, option_map, Bool, false, not, codes, map, int_le, ◌&&◌, if◌then◌else◌}
 use Rattle.std.specs.List.{join_with_byte}
 use Rattle.std.specs.Option.{is_some, option_map_or}
 use Rattle.std.specs.Result.{result_ok}
@@ -8,6 +8,7 @@ use Rattle.jiff.specs.Words.{parse_timestamp}
 use Rattle.serde_json.specs.Data.{Data}
 use Rattle.serde_json.specs.Read.{read}
 use Rattle.serde_json.specs.Find.{get, as_str}
+use Rattle.edit_store.specs.Store.{Files, StoreView}
 use Rattle.edit_sources.specs.IndexLines.{lines_of, rust_version_of, yanked_of}
 use Rattle.edit_sources.specs.declared.published.PublishedBefore.{PublishedBefore}
 
@@ -38,11 +39,11 @@ has_entry d =
 abbrev pub is_index_line : List ℕ → Bool
 is_index_line line = is_utf8 line && option_map_or has_entry (read line) false
 
--- whether a line tells of a publication at or before the bound (own)
+-- whether a line says that its version was published at or before the bound (own)
 abbrev pub is_published : PublishedBefore → List ℕ → Bool
 is_published bound line = option_map_or (λ d. is_by bound (publish_time d)) (read line) false
 
--- whether a line is valid and does not tell of a publication at or before the bound (own)
+-- whether a line is valid and does not say that its version was published by the bound (own)
 abbrev pub is_withheld : PublishedBefore → List ℕ → Bool
 is_withheld bound line = is_index_line line && not (is_published bound line)
 
@@ -57,3 +58,12 @@ published_text bound text = join_with_byte 10 (map (published_line bound) (lines
 -- the line feed that ends a line, if there are lines after it (own)
 abbrev pub line_end : Bool → List ℕ
 line_end has_more = if has_more then 10 ∷ [] else []
+
+-- the contents of files, with the lines of versions that were published by the bound, if there is one (own)
+abbrev pub published_files : Option PublishedBefore → Files → Files
+published_files None files = files
+published_files (Some bound) files = λ path. option_map (published_text bound) (files path)
+
+-- a store whose files have these contents (own)
+abbrev pub published_view : Option PublishedBefore → StoreView → StoreView
+published_view bound store = record store { file_at = published_files bound store.file_at }

@@ -1,12 +1,14 @@
 //! An index of one file per crate.
-ghost use Rattle.std.specs.Prelude.{◌≡◌, Ok, IfOk};
+ghost use Rattle.std.specs.Prelude.{◌≡◌, None, Ok, IfOk};
 ghost use Rattle.edit_store.specs.Store.{OnlyReads};
 ghost use Rattle.edit_sources.specs.Index.{HasLookupCause, SameOutcomes, answer_of};
-ghost use Rattle.edit_sources.specs.LocalIndex.{LocalGives, local_view, store_of};
+ghost use Rattle.edit_sources.specs.LocalIndex.{LocalGives, bound_of, files_of, local_view, store_of};
+ghost use Rattle.edit_sources.specs.Published.{published_view};
 
 use crate::index::{Index, IndexKrate};
 use crate::index_lines::read_lines;
 use crate::index_path::index_path;
+use crate::published::{PublishedBefore, read_published};
 use edit_base::errors::CargoResult;
 use edit_store::store::Store;
 use std::alloc::Global;
@@ -17,27 +19,38 @@ use url::Url;
 #[derive(Debug, Drop)]
 pub struct LocalIndex<S> {
     store: S,
+    bound: Option<PublishedBefore>,
 }
 
 impl<S: Store> LocalIndex<S> {
     /// Returns an index in the files of a store.
     pub fn new(store: S) -> LocalIndex<S>
-        ensures { store_of result ≡ store }
+        ensures store { store_of result ≡ store }
+        ensures bound { bound_of result ≡ None }
     {
-        LocalIndex { store }
+        LocalIndex::with_bound(store, None)
+    }
+
+    /// Returns an index in the files of a store, without the versions that were not published by the bound,
+    /// if there is one.
+    pub fn with_bound(store: S, bound: Option<PublishedBefore>) -> LocalIndex<S>
+        ensures store { store_of result ≡ store }
+        ensures bound { bound_of result ≡ bound }
+    {
+        LocalIndex { store, bound }
     }
 }
 
 impl<S: Store> Index for LocalIndex<S> {
-    ghost view = { λ i. local_view (S.view i.store) };
+    ghost view = { λ i. local_view (published_view i.bound (S.view i.store)) };
 
     fn look(&mut self, alloc: Global, registry: &Url, name: &str) -> CargoResult<Option<IndexKrate>>
-        ensures same { SameOutcomes (LocalGives (S.view (store_of self.old)))
-            (LocalGives (S.view (store_of self.new))) }
-        ensures given { IfOk result (λ k. LocalGives (S.view (store_of self.old)) registry.now name.now
+        ensures same { SameOutcomes (LocalGives (files_of S.view self.old))
+            (LocalGives (files_of S.view self.new)) }
+        ensures given { IfOk result (λ k. LocalGives (files_of S.view self.old) registry.now name.now
             (Ok (answer_of k))) }
-        ensures cause { HasLookupCause (local_view (S.view (store_of self.old)))
-            (local_view (S.view (store_of self.new))) registry.now name.now result }
+        ensures cause { HasLookupCause (local_view (files_of S.view self.old))
+            (local_view (files_of S.view self.new)) registry.now name.now result }
         // no file changes
         ensures reads { OnlyReads (S.view (store_of self.old)) (S.view (store_of self.new)) }
     {
@@ -45,7 +58,7 @@ impl<S: Store> Index for LocalIndex<S> {
             Ok(path) => path,
             Err(error) => return Err(error),
         };
-        let bytes = match self.store.read(alloc, path.as_str()) {
+        let bytes = match read_published(&mut self.store, alloc, path.as_str(), self.bound) {
             Ok(Some(bytes)) => bytes,
             Ok(None) => return Ok(None),
             Err(error) => return Err(error),

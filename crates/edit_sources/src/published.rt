@@ -1,12 +1,14 @@
 //! Index lines of versions that were published at or before a bound.
-ghost use Rattle.std.specs.Prelude.{◌≡◌, [], ◌++◌, ◌-ℤ◌, ◌*ℤ◌, pos, IfErr, IfOk, OnOk, map, not, option_map, ◌&&◌, if◌then◌else◌};
+ghost use Rattle.std.specs.Prelude.{◌≡◌, [], ◌++◌, ◌-ℤ◌, ◌*ℤ◌, pos, true, IfErr, IfOk, OnOk, map, not, option_map, ◌&&◌, if◌then◌else◌};
 ghost use Rattle.edit_base.specs.Errors.{IsMemory};
 ghost use Rattle.edit_sources.specs.IndexLines.{lines_of};
-ghost use Rattle.edit_sources.specs.Published.{has_entry, instant_of, is_by, is_withheld, line_end, publish_time, published_line, published_text};
+ghost use Rattle.edit_sources.specs.Published.{has_entry, instant_of, is_by, is_withheld, line_end, publish_time, published_files, published_line, published_text};
+ghost use Rattle.edit_store.specs.Store.{HasCause, SameFiles};
 ghost use Rattle.serde_json.specs.View.{view};
 
 use crate::index_lines::{rust_version, split_line, text, yanked_flag};
-use edit_base::errors::{CargoResult, Error};
+use edit_base::errors::{CargoResult, DeviceCall, Error};
+use edit_store::store::Store;
 use jiff::Timestamp;
 use serde_json::Value;
 use std::alloc::{AllocError, Global};
@@ -132,4 +134,50 @@ pub fn retain_published(alloc: Global, bytes: &[u8], bound: PublishedBefore) -> 
         rest = after;
     }
     Ok(published)
+}
+
+/// Empties lines of a file as `retain_published` does, if there is a file.
+fn retain_found(
+    alloc: Global,
+    found: Option<Vec<u8>>,
+    bound: PublishedBefore,
+) -> CargoResult<Option<Vec<u8>>>
+    ensures bytes { IfOk result (λ r. option_map (λ v. v.items) r
+        ≡ option_map (published_text bound) (option_map (λ v. v.items) found)) }
+    ensures error { IfErr result IsMemory }
+{
+    match found {
+        Some(bytes) => match retain_published(alloc, &bytes, bound) {
+            Ok(published) => Ok(Some(published)),
+            Err(error) => Err(error),
+        },
+        None => Ok(None),
+    }
+}
+
+/// Reads a file of an index from a store. With a bound, the lines of versions that were not published by then
+/// are empty.
+pub(crate) fn read_published<S: Store>(
+    store: &mut S,
+    alloc: Global,
+    path: &str,
+    bound: Option<PublishedBefore>,
+) -> CargoResult<Option<Vec<u8>>>
+    ensures tells { (S.view store.new).tells ≡ (S.view store.old).tells }
+    ensures files { SameFiles (S.view store.old).file_at (S.view store.new).file_at }
+    ensures published { SameFiles (published_files bound (S.view store.old).file_at)
+        (published_files bound (S.view store.new).file_at) }
+    ensures writes { (S.view store.new).writes ≡ (S.view store.old).writes }
+    ensures bytes { IfOk result (λ r. (S.view store.old).tells ≡ true
+        → option_map (λ v. v.items) r ≡ published_files bound (S.view store.old).file_at path.now) }
+    ensures cause { HasCause DeviceCall.Read (S.view store.old) (S.view store.new) result }
+{
+    let found = match store.read(alloc, path) {
+        Ok(found) => found,
+        Err(error) => return Err(error),
+    };
+    match bound {
+        Some(bound) => retain_found(alloc, found, bound),
+        None => Ok(found),
+    }
 }

@@ -76,6 +76,3 @@ impl<W: io::Write + Drop> io::Write for TerminalWriter<W> {
         self.to.flush()
     }
 }
-
-#[cfg(test)]
-mod tests;

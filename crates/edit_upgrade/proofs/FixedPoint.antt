@@ -96,7 +96,7 @@ case-whole o x r m xs old near far all h ic il =
     (subst (λ (y : Option Parts). IsCompatible old xs y) n.1 ic) in
     whole-of old old n.0 t (upgrade_of old n.0) valid h refl n.2)
 
--- the same of an entry, where package arguments give it no requirement
+-- the text left by the decision for an entry, without an explicit requirement, is a whole token
 decided-whole : (o : Options) (xs : List Parts) (e : RowEntry) (old : List ℕ) (near far : Option Parts)
     → requirement_for o e.name ≡ None → All IsValid xs → cut old ≡ old
     → IsCompatible old xs near → IsLatest old xs far

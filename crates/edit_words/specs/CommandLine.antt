@@ -40,6 +40,7 @@ switches =
     ∷ count_rule (codes "verbose") 118
     ∷ count_rule (codes "quiet") 113
     ∷ flag_rule (codes "never-lower")
+    ∷ flag_rule (codes "to-lockfile")
     ∷ []
 
 -- the options that say what may be upgraded, two of them ignored where they are not given

@@ -67,7 +67,7 @@ fn configurations<'a>() -> [ArgSpec<'a>; 2]
 }
 
 /// What says which versions of Rust count, and the flags.
-fn switches<'a>() -> [ArgSpec<'a>; 8]
+fn switches<'a>() -> [ArgSpec<'a>; 9]
     ensures { map arg_rule result ≡ rust_choices ++ switches }
 {
     [
@@ -96,6 +96,11 @@ fn switches<'a>() -> [ArgSpec<'a>; 8]
         plain("verbose", Form::Counted, "Reports more").short('v'),
         plain("quiet", Form::Counted, "Reports less").short('q'),
         plain("never-lower", Form::Flag, "Lowers no requirement"),
+        plain(
+            "to-lockfile",
+            Form::Flag,
+            "Raise only to the versions in Cargo.lock",
+        ),
     ]
 }
 

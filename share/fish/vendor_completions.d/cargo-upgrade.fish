@@ -11,6 +11,7 @@ complete -c cargo-upgrade -l offline -d 'Fetches nothing: cached index entries a
 complete -c cargo-upgrade -s v -l verbose -d 'Reports more'
 complete -c cargo-upgrade -s q -l quiet -d 'Reports less'
 complete -c cargo-upgrade -l never-lower -d 'Lowers no requirement'
+complete -c cargo-upgrade -l to-lockfile -d 'Raise only to the versions in Cargo.lock'
 complete -c cargo-upgrade -l check -d 'Like `--dry-run`, with status 1 where something would change'
 complete -c cargo-upgrade -l message-format -a 'human json markdown' -d 'How the report is printed [possible values: human, json, markdown] [default: human]'
 complete -c cargo-upgrade -l diff -d 'Prints the changes of manifests as diffs'

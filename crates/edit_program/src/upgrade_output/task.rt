@@ -11,7 +11,7 @@ use edit_upgrade::{Options, UpgradePlan};
 pub struct DeliveryTask<'a> {
     pub plan: &'a UpgradePlan,
     pub inputs: &'a [Input],
-    /// The workspace of the manifests, where there is one: without it no calls follow.
+    /// The workspace for which calls follow: without one there are none.
     pub workspace: Option<&'a Workspace>,
     pub options: &'a Options,
     /// The folder that paths in diffs are relative to.

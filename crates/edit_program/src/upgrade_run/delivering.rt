@@ -5,7 +5,7 @@ ghost use Rattle.edit_lock.specs.Views.{lock_view};
 ghost use Rattle.edit_metadata.specs.Workspaces.{workspace_view};
 ghost use Rattle.edit_sources.specs.Configured.{given};
 ghost use Rattle.edit_program.specs.Delivery.{delivery_of};
-ghost use Rattle.edit_program.specs.Upgrading.{IsPathOf, delivery_by, diff_root, has_outputs};
+ghost use Rattle.edit_program.specs.Upgrading.{IsPathOf, called_workspace, delivery_by, diff_root, has_outputs};
 
 use crate::upgrade_output::DeliveryTask;
 use crate::upgrade_run::upgrade_args::UpgradeArgs;
@@ -45,6 +45,15 @@ fn diff_root<'a>(workspace: Option<&'a Workspace>, current: &'a str) -> &'a str
     }
 }
 
+/// The workspace for which calls of `cargo update` follow: none with `--to-lockfile`, which leaves the lock
+/// file as it is.
+fn called_workspace(to_lockfile: bool, workspace: Option<&Workspace>) -> Option<&Workspace>
+    ensures { option_map (λ w. workspace_view w.now) result
+        ≡ called_workspace to_lockfile (option_map (λ w. workspace_view w.now) workspace.entry) }
+{
+    if to_lockfile { None } else { workspace }
+}
+
 /// How the plan for these manifests is printed and written, from the arguments. `update_calls` is the path
 /// of the file for the calls, which are adapted to the lock file where there is one.
 pub(crate) fn delivery_task<'a>(
@@ -62,7 +71,7 @@ pub(crate) fn delivery_task<'a>(
     DeliveryTask {
         plan,
         inputs: target.inputs.as_slice(),
-        workspace,
+        workspace: called_workspace(args.to_lockfile, workspace),
         options: &args.options,
         root: diff_root(workspace, current),
         presentation: args.presentation,

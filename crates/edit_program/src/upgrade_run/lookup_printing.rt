@@ -43,7 +43,7 @@ fn lines_for(
         ⊎ IsPlanCause options.now target.now.inputs.items (lists_for configs.now) no_view e) }
     ensures counted { IfErr result (λ e. number_of e ≢ 3) }
 {
-    let plan = plan_over(alloc, options, target, configs, NoIndex {})?;
+    let plan = plan_over(alloc, options, target, configs, None, NoIndex {})?;
     lookup_lines_text(alloc, &plan.looks)
 }
 

@@ -1,14 +1,18 @@
 //! The plan over the files that were read.
-ghost use Rattle.std.specs.Prelude.{◌≡◌, ◌⊎◌, IfErr, IfOk, length};
+ghost use Rattle.std.specs.Prelude.{◌≡◌, ◌⊎◌, [], IfErr, IfOk, length, map, option_map, unwrap_or};
 ghost use Rattle.edit_base.specs.Errors.{IsMemory};
+ghost use Rattle.edit_lock.specs.Views.{lock_view, locked_package_view};
+ghost use Rattle.edit_locked_index.specs.LockedIndex.{locked_view};
 ghost use Rattle.edit_metadata.specs.Inputs.{HaveOwnPaths};
 ghost use Rattle.edit_steps.specs.Shared.{HasLists, lists_for};
 ghost use Rattle.edit_steps.specs.Sources.{AreDocuments};
 ghost use Rattle.edit_program.specs.Counted.{CountsIndexFault, CountsStoreFault};
-ghost use Rattle.edit_program.specs.Planned.{IsPlanCause, IsPlanned, index_view};
+ghost use Rattle.edit_program.specs.Planned.{IsPlanCause, IsPlanned, index_view, restriction};
 
 use edit_base::CargoResult;
 use edit_cache::IndexCache;
+use edit_lock::{Lock, LockedPackage};
+use edit_locked_index::LockedIndex;
 use edit_sources::index_dir::DirIndex;
 use edit_sources::{Index, LocalIndex};
 use edit_steps::upgrade_read::{IndexSource, SharedConfigs, Target};
@@ -16,12 +20,37 @@ use edit_store::Store;
 use edit_upgrade::{Options, UpgradePlan, plan_shared};
 use std::alloc::Global;
 
-/// The plan for manifests over an index, from their parsed documents where there are any.
+/// The packages of a lock file; none without one.
+fn locked_packages(lock: Option<&Lock>) -> &[LockedPackage]
+    ensures { map locked_package_view result.now
+        ≡ unwrap_or (option_map (λ l. lock_view l.now) lock.entry) [] }
+{
+    match lock {
+        Some(lock) => lock.packages.as_slice(),
+        None => &[],
+    }
+}
+
+/// The packages to which an upgrade is restricted: with `--to-lockfile` those of the lock file.
+pub(crate) fn restriction(to_lockfile: bool, lock: Option<&Lock>) -> Option<&[LockedPackage]>
+    ensures { option_map (λ ps. map locked_package_view ps.now) result
+        ≡ restriction to_lockfile (option_map (λ l. lock_view l.now) lock.entry) }
+{
+    if to_lockfile {
+        Some(locked_packages(lock))
+    } else {
+        None
+    }
+}
+
+/// The plan for manifests over an index, which is restricted to packages of a lock file where they are
+/// given, from the manifests' parsed documents where there are any.
 pub(crate) fn plan_over<I: Index + Drop>(
     alloc: Global,
     options: &Options,
     target: &Target,
     configs: &SharedConfigs,
+    locked: Option<&[LockedPackage]>,
     index: I,
 ) -> CargoResult<UpgradePlan>
     requires paths { HaveOwnPaths target.now.inputs.items }
@@ -29,11 +58,13 @@ pub(crate) fn plan_over<I: Index + Drop>(
     requires lists { HasLists configs.now }
     requires documents { AreDocuments target.now.documents.items target.now.inputs.items }
     ensures planned { IfOk result (IsPlanned options.now target.now.inputs.items (lists_for configs.now)
-        (I.view index)) }
+        (locked_view (option_map (λ ps. map locked_package_view ps.now) locked.entry) (I.view index))) }
     ensures error { IfErr result (λ e. IsMemory e
-        ⊎ IsPlanCause options.now target.now.inputs.items (lists_for configs.now) (I.view index) e) }
+        ⊎ IsPlanCause options.now target.now.inputs.items (lists_for configs.now)
+        (locked_view (option_map (λ ps. map locked_package_view ps.now) locked.entry) (I.view index)) e) }
     ensures counted { IfErr result (CountsIndexFault I.view index) }
 {
+    let index = LockedIndex::new(alloc, index, locked)?;
     let mut cache = IndexCache::new(alloc, index);
     let Target {
         inputs,
@@ -45,12 +76,13 @@ pub(crate) fn plan_over<I: Index + Drop>(
 }
 
 /// The plan for manifests over the lines of an index file, over an index folder, or over the index in
-/// `index_files`.
+/// `index_files`, each restricted to packages of a lock file where they are given.
 pub(crate) fn plan_for<T: Store + Drop>(
     alloc: Global,
     options: &Options,
     target: &Target,
     configs: &SharedConfigs,
+    locked: Option<&[LockedPackage]>,
     index: IndexSource,
     index_files: T,
 ) -> CargoResult<UpgradePlan>
@@ -59,10 +91,12 @@ pub(crate) fn plan_for<T: Store + Drop>(
     requires lists { HasLists configs.now }
     requires documents { AreDocuments target.now.documents.items target.now.inputs.items }
     ensures planned { IfOk result (IsPlanned options.now target.now.inputs.items (lists_for configs.now)
-        (index_view index (T.view index_files))) }
+        (locked_view (option_map (λ ps. map locked_package_view ps.now) locked.entry)
+        (index_view index (T.view index_files)))) }
     ensures error { IfErr result (λ e. IsMemory e
         ⊎ IsPlanCause options.now target.now.inputs.items (lists_for configs.now)
-        (index_view index (T.view index_files)) e) }
+        (locked_view (option_map (λ ps. map locked_package_view ps.now) locked.entry)
+        (index_view index (T.view index_files))) e) }
     ensures counted { IfErr result (CountsStoreFault T.view index_files) }
 {
     match index {
@@ -71,14 +105,16 @@ pub(crate) fn plan_for<T: Store + Drop>(
             options,
             target,
             configs,
+            locked,
             LocalIndex::new(index_files),
         ),
-        IndexSource::Lines(index) => plan_over(alloc, options, target, configs, index),
+        IndexSource::Lines(index) => plan_over(alloc, options, target, configs, locked, index),
         IndexSource::Folder(folder) => plan_over(
             alloc,
             options,
             target,
             configs,
+            locked,
             DirIndex::new(index_files, folder),
         ),
     }

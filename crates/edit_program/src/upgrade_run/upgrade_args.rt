@@ -31,6 +31,9 @@ pub struct UpgradeArgs<'a> {
     pub lock_file: Option<&'a str>,
     /// Whether calls that are valid for a lock file must not fetch anything.
     pub offline: bool,
+    /// Raise requirements only to versions that the lock file has, which must exist; nothing is raised where
+    /// no lock file is given.
+    pub to_lockfile: bool,
 }
 
 impl<'a> UpgradeArgs<'a> {

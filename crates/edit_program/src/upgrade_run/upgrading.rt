@@ -11,7 +11,7 @@ ghost use Rattle.edit_program.specs.Upgrading.{IsBroken, IsUpgraded};
 use crate::run_folders::RunFolders;
 use crate::upgrade_output::deliver;
 use crate::upgrade_run::delivering::{delivery_task, has_outputs, path_of};
-use crate::upgrade_run::plan::plan_for;
+use crate::upgrade_run::plan::{plan_for, restriction};
 use crate::upgrade_run::reading::{Readings, read};
 use crate::upgrade_run::upgrade_args::UpgradeArgs;
 use edit_diagnostics::{explain_delivery, explain_upgrade};
@@ -63,7 +63,17 @@ pub fn upgrade<S: Store, T: Store + Drop, O: io::Write, E: io::Write>(
         index,
     } = sources;
     let options = &args.options;
-    let plan = match plan_for(alloc, options, &target, &configs, index, index_files) {
+    let lock = lock.as_ref();
+    let locked = restriction(args.to_lockfile, lock);
+    let plan = match plan_for(
+        alloc,
+        options,
+        &target,
+        &configs,
+        locked,
+        index,
+        index_files,
+    ) {
         Ok(plan) => plan,
         Err(error) => {
             let request = args.to_request();
@@ -72,7 +82,6 @@ pub fn upgrade<S: Store, T: Store + Drop, O: io::Write, E: io::Write>(
         }
     };
     let path = named.as_deref();
-    let lock = lock.as_ref();
     let task = delivery_task(args, current, &target, &plan, path, lock);
     match deliver(alloc, &task, files, out, err) {
         Ok(()) => Ok(has_outputs(&plan)),

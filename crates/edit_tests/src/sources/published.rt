@@ -1,8 +1,9 @@
-//! Tests of `retain_published` and `PublishedBefore`.
+//! Tests of `retain_published`, `PublishedBefore` and indexes with a bound.
 use super::calls::calls;
+use super::index_texts::files_of;
 use crate::assertion_helpers::unwrap_ok;
 use edit_cache::IndexCache;
-use edit_sources::{FileIndex, PublishedBefore, retain_published};
+use edit_sources::{FileIndex, LocalIndex, PublishedBefore, retain_published};
 
 /// A line of each crate, with the time at which its version was published.
 const DATED: &[u8] = b"\
@@ -35,6 +36,25 @@ fn retains_published_lines(rt: HostRuntime) {
     let index = unwrap_ok(&rt, FileIndex::read(rt.alloc(), &bytes));
     let mut cache = IndexCache::new(rt.alloc(), index);
     calls(&rt, rt.alloc(), &mut cache, OVER_DATED);
+}
+
+/// Paths with lines: of one the first is not published by the bound, and of another the last is malformed.
+const FILES: &str = "\
+/idx/1/a|{\"name\":\"a\",\"vers\":\"1.1.0\"}@\
+{\"name\":\"a\",\"vers\":\"1.0.0\",\"pubtime\":\"2025-05-01T12:00:00Z\"}
+/idx/1/b|{\"name\":\"b\",\"vers\":\"1.0.0\"}@{\"name\":1}";
+
+/// The calls over them.
+const OVER_FILES: &str = "\
+the second line|krate|a||a 1.0.0.
+a malformed line has its number|krate|b||30 Invalid index line 2";
+
+#[test]
+fn looks_up_published_versions(rt: HostRuntime) {
+    let bound = PublishedBefore::parse("2025-05-01T14:00:00+02:00");
+    let index = LocalIndex::with_bound(files_of(&rt, rt.alloc(), FILES), bound);
+    let mut cache = IndexCache::new(rt.alloc(), index);
+    calls(&rt, rt.alloc(), &mut cache, OVER_FILES);
 }
 
 #[test]

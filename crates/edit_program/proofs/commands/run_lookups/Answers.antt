@@ -27,3 +27,7 @@ returns-clause-done g c other t = (
     unchanged = c.print_lookups.ensures.reads.files;
   },
 )
+
+pub returns-in-Err-Fault-clause-fault : goal.returns-in-Err-Fault-clause-fault
+returns-in-Err-Fault-clause-fault g c two =
+    c.in-Err-Fault.ensures.error (λ same. cc (same, c.in-Err-Fault.field-0-is))

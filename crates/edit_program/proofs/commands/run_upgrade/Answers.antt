@@ -55,3 +55,7 @@ returns-clause-done g c other t = record {
 pub returns-clause-requested : goal.returns-clause-requested
 returns-clause-requested g c one =
     check_after (rows_of (found_of c.args.matches.now)) c.in_ok-due.due _ c.status_after.ensures one
+
+pub returns-in-Err-Fault-clause-fault : goal.returns-in-Err-Fault-clause-fault
+returns-in-Err-Fault-clause-fault g c two =
+    c.in-Err-Fault.ensures.error (λ same. cc (same, c.in-Err-Fault.field-0-is))

@@ -18,7 +18,17 @@ pub returns-in_err-presentation-clause-error : goal.returns-in_err-presentation-
 returns-in_err-presentation-clause-error c =
     err_same c.from_residual-in_err-presentation.result c.in_err-presentation.field-0.0 _
     c.from_residual-in_err-presentation.ensures.1 (λ other.
-    inr (inr (inr c.in_err-presentation.ensures.error)))
+    inr (inr (inr (inl c.in_err-presentation.ensures.error))))
+
+pub returns-in_err-to_lockfile-clause-error : goal.returns-in_err-to_lockfile-clause-error
+returns-in_err-to_lockfile-clause-error c =
+    err_same c.from_residual-in_err-to_lockfile.result c.in_err-to_lockfile.field-0.0 _
+    c.from_residual-in_err-to_lockfile.ensures.1 (λ other.
+    inr (inr (inr (inr (record {
+      incompatible = c.in_ok-options.options.incompatible;
+      status = c.in_ok-options.ensures.options.incompatible;
+      fault = c.in_err-to_lockfile.ensures.error;
+    })))))
 
 pub returns-clause-asks : goal.returns-clause-asks
 returns-clause-asks c =
@@ -37,9 +47,11 @@ returns-clause-asks c =
           c.is_given-ignored.ensures
           (subst (λ (a : Option Text). IsRust a c.is_given-ignored.result c.in_ok-rust.rust) named
           c.in_ok-rust.ensures.ok);
-      options = c.in_ok-options_of.ensures.options;
+      options = c.in_ok-options.ensures.options;
       presentation = c.in_ok-presentation.ensures.ok;
       calls = option_text_is c.args.matches.now (codes "update-calls") c.get_str-8.result _ refl c.get_str-8.ensures;
       lock = option_text_is c.args.matches.now (codes "lock-file") c.get_str-9.result _ refl c.get_str-9.ensures;
       offline = search rules;
+      to_lockfile = c.in_ok-to_lockfile.ensures.given;
+      usable = c.in_ok-to_lockfile.ensures.usable;
     }

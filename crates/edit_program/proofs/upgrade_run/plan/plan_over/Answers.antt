@@ -1,9 +1,13 @@
-use Rattle.std.proofs.Common.{◌≡◌, List, ℕ, subst, sym}
+use Rattle.std.proofs.Common.{◌≡◌, List, ℕ, map, option_map, subst, sym}
 use Rattle.std.proofs.lemmas.Result.{IfOk-weaker}
 use Rattle.std.specs.Global.{Vec}
 use Rattle.std.specs.Prelude.{◌⊎◌, IfErr, IfOk}
 use Rattle.edit_base.specs.Errors.{IsMemory}
+use Rattle.edit_lock.specs.Views.{locked_package_view}
+use Rattle.edit_locked_index.proofs.RestrictedLemmas.{over_locked}
+use Rattle.edit_locked_index.specs.LockedIndex.{view_of}
 use Rattle.edit_metadata.specs.declared.input.Input.{Input}
+use Rattle.edit_sources.specs.Index.{IndexView}
 use Rattle.edit_sources.specs.declared.config.Config.{Config}
 use Rattle.edit_tree.specs.DocumentViews.{DocumentViews}
 use Rattle.edit_steps.specs.Shared.{lists_for}
@@ -11,6 +15,7 @@ use Rattle.edit_steps.specs.Sources.{AreDocuments}
 use Rattle.edit_upgrade.specs.ConfigLists.{AreIndices, chosen_lists}
 use Rattle.edit_program.specs.Planned.{IsPlanCause, IsPlanned}
 use Rattle.edit_program.proofs.CountLemmas.{shared_count}
+use Rattle.edit_program.proofs.IndexFaults.{locked_fault}
 use Rattle.edit_program.proofs.PlanLemmas.{both_causes, planned, shared_refused}
 use Rattle.edit_program.proofs.upgrade_run.plan.plan_over.Goals as goal
 
@@ -34,28 +39,37 @@ pub returns-clause-planned : goal.returns-clause-planned
 returns-clause-planned g c =
     let o = c.args.options.now in
     let is = c.deref.result.now in
-    let view = g.I.Index.view c.args.index in
+    let view = view_of g.I.Index.view c.in_ok-index.index in
     let r = c.plan_shared.result in
-    subst (λ (xs : List Input). IfOk r (IsPlanned o xs (lists_for c.args.configs.now) view))
+    over_locked g.I.Index.view c.in_ok-index.index c.args.index
+    (option_map (λ ps. map locked_package_view ps.now) c.args.locked)
+    (λ (v : IndexView). IfOk r (IsPlanned o c.args.target.now.inputs.items (lists_for c.args.configs.now) v))
+    c.in_ok-index.ensures.index c.in_ok-index.ensures.tests
+    (subst (λ (xs : List Input). IfOk r (IsPlanned o xs (lists_for c.args.configs.now) view))
     c.deref.ensures.value
     (subst (λ (ls : List (Vec Config)).
     IfOk r (IsPlanned o is (chosen_lists ls c.args.configs.now.which.items) view)) c.deref-3.ensures.value
     (subst (λ (js : List ℕ). IfOk r (IsPlanned o is (chosen_lists c.deref-3.result.now js) view))
     c.deref-4.ensures.value
-    (IfOk-weaker r _ _ (λ p h. planned g.I.Index.view c.args.index o is
+    (IfOk-weaker r _ _ (λ p h. planned (view_of g.I.Index.view) c.in_ok-index.index o is
     (chosen_lists c.deref-3.result.now c.deref-4.result.now) c.new-cache.result c.plan_shared.new.index p
-    c.new-cache.ensures.index c.new-cache.ensures.empty h) c.plan_shared.ensures.plan)))
+    c.new-cache.ensures.index c.new-cache.ensures.empty h) c.plan_shared.ensures.plan))))
 
 pub returns-clause-error : goal.returns-clause-error
 returns-clause-error g c =
     let o = c.args.options.now in
     let is = c.deref.result.now in
     let docs = c.deref-2.result.now in
-    let view = g.I.Index.view c.args.index in
+    let view = view_of g.I.Index.view c.in_ok-index.index in
     let r = c.plan_shared.result in
     let documents = documents_of c.args.target.now.documents.items c.args.target.now.inputs.items docs is
     c.deref-2.ensures.value c.deref.ensures.value c.requires.documents in
-    subst (λ (xs : List Input). IfErr r
+    over_locked g.I.Index.view c.in_ok-index.index c.args.index
+    (option_map (λ ps. map locked_package_view ps.now) c.args.locked)
+    (λ (v : IndexView). IfErr r (λ e. IsMemory e
+    ⊎ IsPlanCause o c.args.target.now.inputs.items (lists_for c.args.configs.now) v e))
+    c.in_ok-index.ensures.index c.in_ok-index.ensures.tests
+    (subst (λ (xs : List Input). IfErr r
     (λ e. IsMemory e ⊎ IsPlanCause o xs (lists_for c.args.configs.now) view e)) c.deref.ensures.value
     (subst (λ (ls : List (Vec Config)). IfErr r
     (λ e. IsMemory e ⊎ IsPlanCause o is (chosen_lists ls c.args.configs.now.which.items) view e))
@@ -63,10 +77,10 @@ returns-clause-error g c =
     (subst (λ (js : List ℕ). IfErr r
     (λ e. IsMemory e ⊎ IsPlanCause o is (chosen_lists c.deref-3.result.now js) view e))
     c.deref-4.ensures.value
-    (both_causes r _ _ _ (λ e given read. shared_refused g.I.Index.view c.args.index o is
+    (both_causes r _ _ _ (λ e given read. shared_refused (view_of g.I.Index.view) c.in_ok-index.index o is
     (chosen_lists c.deref-3.result.now c.deref-4.result.now) docs c.new-cache.result c.plan_shared.new.index e
     c.new-cache.ensures.index c.new-cache.ensures.empty c.plan_shared.ensures.left documents given read)
-    c.plan_shared.ensures.given c.plan_shared.ensures.read)))
+    c.plan_shared.ensures.given c.plan_shared.ensures.read))))
 
 pub returns-clause-counted : goal.returns-clause-counted
 returns-clause-counted g c =
@@ -74,7 +88,8 @@ returns-clause-counted g c =
     let docs = c.deref-2.result.now in
     let documents = documents_of c.args.target.now.documents.items c.args.target.now.inputs.items docs is
     c.deref-2.ensures.value c.deref.ensures.value c.requires.documents in
-    both_causes c.plan_shared.result _ _ _ (λ e given read. shared_count g.I.Index.view c.args.index
+    both_causes c.plan_shared.result _ _ _ (λ e given read. locked_fault g.I.Index.view c.in_ok-index.index
+    c.args.index e c.in_ok-index.ensures.index (shared_count (view_of g.I.Index.view) c.in_ok-index.index
     c.args.options.now is (chosen_lists c.deref-3.result.now c.deref-4.result.now) docs c.new-cache.result
-    c.plan_shared.new.index e c.new-cache.ensures.index documents given read)
+    c.plan_shared.new.index e c.new-cache.ensures.index documents given read))
     c.plan_shared.ensures.given c.plan_shared.ensures.read

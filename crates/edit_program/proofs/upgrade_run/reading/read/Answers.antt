@@ -19,9 +19,9 @@ returns-in_err-lock-clause-error g c =
     let new = g.S.Store.view c.read_lock.new.files in
     let e = c.in_err-lock.field-0.0 in
     failure_has c.from_residual.result e (λ error. IsReadCause current home (to_request args) old new error
-    ⊎ (old.tells ≡ true → HasNoLock old.file_at current (given args.lock_file) error))
+    ⊎ (old.tells ≡ true → HasNoLock args.to_lockfile old.file_at current (given args.lock_file) error))
     c.from_residual.ensures.1
-    (lock_refused old new current home (given args.lock_file) (to_request args) e.error c.in_err-lock.ensures.error)
+    (lock_refused args.to_lockfile old new current home (given args.lock_file) (to_request args) e.error c.in_err-lock.ensures.error)
 
 pub returns-in_err-sources-clause-error : goal.returns-in_err-sources-clause-error
 returns-in_err-sources-clause-error g c =
@@ -34,7 +34,7 @@ returns-in_err-sources-clause-error g c =
     let e = c.in_err-sources.field-0.0 in
     failure_has c.from_residual-in_err-sources.result e
     (λ error. IsReadCause current home (to_request args) old new error
-    ⊎ (old.tells ≡ true → HasNoLock old.file_at current (given args.lock_file) error))
+    ⊎ (old.tells ≡ true → HasNoLock args.to_lockfile old.file_at current (given args.lock_file) error))
     c.from_residual-in_err-sources.ensures.1
     (inl (cause_after old mid new current home (to_request args) e.error c.in_ok-lock.ensures.store
     (subst (λ a. IsReadCause current home a mid new e.error) c.to_request.ensures c.in_err-sources.ensures.error)))

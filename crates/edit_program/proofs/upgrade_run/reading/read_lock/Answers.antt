@@ -12,5 +12,5 @@ returns-in-Err-clause-error g c =
     let new = g.S.Store.view c.read_lock_at.new.files in
     let e = c.in-Err.failure.error in
     subst (λ named. IsCallError call.Read old new e
-    ⊎ (old.tells ≡ true → HasNoLock old.file_at c.args.current.now (given named) e)) (sym c.in-Some.is)
+    ⊎ (old.tells ≡ true → HasNoLock c.args.required old.file_at c.args.current.now (given named) e)) (sym c.in-Some.is)
     c.in-Err.ensures.error

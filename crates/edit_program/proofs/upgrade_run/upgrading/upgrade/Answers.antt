@@ -18,7 +18,7 @@ use Rattle.edit_program.specs.LockRead.{IsLockRead}
 use Rattle.edit_program.specs.Upgrading.{IsPathOf, IsRead}
 use Rattle.edit_program.proofs.CountLemmas.{delivery_counts, fault_before}
 use Rattle.edit_program.proofs.OrderLemmas.{rows_in_order, warnings_in_order}
-use Rattle.edit_program.proofs.UpgradeLemmas.{answered, broken, plan_cause, lock_cause, plan_paths, same_lock, stop_cause, upgraded}
+use Rattle.edit_program.proofs.UpgradeLemmas.{answered, broken, plan_cause, planned_for, lock_cause, plan_paths, same_lock, stop_cause, unplanned_for, upgraded}
 use Rattle.edit_program.specs.Counted.{CountsEitherFault}
 use Rattle.edit_program.proofs.upgrade_run.upgrading.upgrade.Goals as goal
 
@@ -49,12 +49,17 @@ returns-in-Err-clause-why g c =
     let s = c.in_ok-readings.readings.sources in
     let read : old.tells ≡ true → IsRead args current home old.file_at s =
     c.in_ok-readings.ensures.read in
+    let lock = option_map (λ l. lock_view l.now) c.as_ref-lock.result in
+    let locked : old.tells ≡ true → IsLockRead args.to_lockfile old.file_at current (given args.lock_file) lock =
+    λ t. subst (IsLockRead args.to_lockfile old.file_at current (given args.lock_file))
+    (sym (same_lock c.as_ref-lock.result c.in_ok-readings.readings.lock c.as_ref-lock.ensures.value))
+    (c.in_ok-readings.ensures.locked t) in
     let out = g.O.Write.contents c.args.out.now in
     subst (λ e. IsUpgradeCause (Appends out out) args (run_at current home local old mid) e)
     (sym c.explain_upgrade.ensures.same)
-    (plan_cause (Appends out out) args current home local old mid s c.in-Err.error
-    (λ path. c.explain_upgrade.ensures.reads.files path ∙ c.in_ok-readings.ensures.store.files path) read
-    c.in-Err.ensures.error)
+    (plan_cause (Appends out out) args current home local old mid s lock c.in-Err.error
+    (λ path. c.explain_upgrade.ensures.reads.files path ∙ c.in_ok-readings.ensures.store.files path) read locked
+    (unplanned_for args s local c.in-Err.error _ lock c.restriction-locked.ensures c.in-Err.ensures.error))
 
 pub returns-in-Err-clause-tells : goal.returns-in-Err-clause-tells
 returns-in-Err-clause-tells g c = c.explain_upgrade.ensures.reads.tells ∙ c.in_ok-readings.ensures.store.tells
@@ -68,9 +73,10 @@ deliver-requires-clause-outputs g c =
     let args = c.args.args.now in
     let s = c.in_ok-readings.readings.sources in
     let local = g.T.Store.view c.args.index_files in
+    let lock = option_map (λ l. lock_view l.now) c.as_ref-lock.result in
     subst (λ p. HaveDistinctPaths p.outputs.items) (sym (ap (λ (d : Delivery). d.plan) c.delivery_task-task.ensures))
-    (plan_paths args s local c.in-Ok.plan c.in_ok-readings.ensures.planned.paths
-    c.in-Ok.ensures.planned)
+    (plan_paths args s lock local c.in-Ok.plan c.in_ok-readings.ensures.planned.paths
+    (planned_for args s local c.in-Ok.plan _ lock c.restriction-locked.ensures c.in-Ok.ensures.planned))
 
 pub deliver-requires-clause-rows : goal.deliver-requires-clause-rows
 deliver-requires-clause-rows g c =
@@ -100,12 +106,12 @@ returns-in-Ok-deliver-clause-done g c =
     let path = given c.as_deref-path.result in
     let read : old.tells ≡ true → IsRead args current home old.file_at s =
     c.in_ok-readings.ensures.read in
-    let planned = c.in-Ok.ensures.planned in
     let at = subst (IsPathOf current (given args.update_calls)) (sym c.as_deref-path.ensures.value)
     c.in_ok-named.ensures.path in
     let lock = option_map (λ l. lock_view l.now) c.as_ref-lock.result in
-    let locked : old.tells ≡ true → IsLockRead old.file_at current (given args.lock_file) lock =
-    λ t. subst (IsLockRead old.file_at current (given args.lock_file))
+    let planned = planned_for args s local plan _ lock c.restriction-locked.ensures c.in-Ok.ensures.planned in
+    let locked : old.tells ≡ true → IsLockRead args.to_lockfile old.file_at current (given args.lock_file) lock =
+    λ t. subst (IsLockRead args.to_lockfile old.file_at current (given args.lock_file))
     (sym (same_lock c.as_ref-lock.result c.in_ok-readings.readings.lock c.as_ref-lock.ensures.value))
     (c.in_ok-readings.ensures.locked t) in
     upgraded c.has_outputs.result HasFields HasDecodedValue args current home local old mid new s plan path lock
@@ -128,12 +134,12 @@ returns-clause-error g c =
     let path = given c.as_deref-path.result in
     let read : old.tells ≡ true → IsRead args current home old.file_at s =
     c.in_ok-readings.ensures.read in
-    let planned = c.in-Ok.ensures.planned in
     let at = subst (IsPathOf current (given args.update_calls)) (sym c.as_deref-path.ensures.value)
     c.in_ok-named.ensures.path in
     let lock = option_map (λ l. lock_view l.now) c.as_ref-lock.result in
-    let locked : old.tells ≡ true → IsLockRead old.file_at current (given args.lock_file) lock =
-    λ t. subst (IsLockRead old.file_at current (given args.lock_file))
+    let planned = planned_for args s local plan _ lock c.restriction-locked.ensures c.in-Ok.ensures.planned in
+    let locked : old.tells ≡ true → IsLockRead args.to_lockfile old.file_at current (given args.lock_file) lock =
+    λ t. subst (IsLockRead args.to_lockfile old.file_at current (given args.lock_file))
     (sym (same_lock c.as_ref-lock.result c.in_ok-readings.readings.lock c.as_ref-lock.ensures.value))
     (c.in_ok-readings.ensures.locked t) in
     broken HasFields args current home local old mid new s plan path lock c.in_ok-readings.ensures.store
@@ -156,12 +162,12 @@ returns-clause-why g c =
     let path = given c.as_deref-path.result in
     let read : old.tells ≡ true → IsRead args current home old.file_at s =
     c.in_ok-readings.ensures.read in
-    let planned = c.in-Ok.ensures.planned in
     let at = subst (IsPathOf current (given args.update_calls)) (sym c.as_deref-path.ensures.value)
     c.in_ok-named.ensures.path in
     let lock = option_map (λ l. lock_view l.now) c.as_ref-lock.result in
-    let locked : old.tells ≡ true → IsLockRead old.file_at current (given args.lock_file) lock =
-    λ t. subst (IsLockRead old.file_at current (given args.lock_file))
+    let planned = planned_for args s local plan _ lock c.restriction-locked.ensures c.in-Ok.ensures.planned in
+    let locked : old.tells ≡ true → IsLockRead args.to_lockfile old.file_at current (given args.lock_file) lock =
+    λ t. subst (IsLockRead args.to_lockfile old.file_at current (given args.lock_file))
     (sym (same_lock c.as_ref-lock.result c.in_ok-readings.readings.lock c.as_ref-lock.ensures.value))
     (c.in_ok-readings.ensures.locked t) in
     subst (λ e. IsUpgradeCause HasFields args (run_at current home local old new) e) (sym c.explain_delivery.ensures)

@@ -1,8 +1,9 @@
 use Rattle.edit_sources.proofs.SameLookups.{same_lookups}
 use Rattle.edit_sources.proofs.local_index.LocalIndexIndex.look.Goals as goal
 
-pub returns-in-Err-read-clause-same : goal.returns-in-Err-read-clause-same
-returns-in-Err-read-clause-same g c = same_lookups _ _ c.read.ensures.tells c.read.ensures.files
+pub returns-in-Err-read_published-clause-same : goal.returns-in-Err-read_published-clause-same
+returns-in-Err-read_published-clause-same g c =
+    same_lookups _ _ c.read_published.ensures.tells c.read_published.ensures.published
 
 pub returns-clause-same : goal.returns-clause-same
-returns-clause-same g c = same_lookups _ _ c.read.ensures.tells c.read.ensures.files
+returns-clause-same g c = same_lookups _ _ c.read_published.ensures.tells c.read_published.ensures.published

@@ -1,11 +1,9 @@
-use super::*;
-use edit_store::{FaultStore, MemoryStore};
+//! Tests of which answers are stored, and of what an upgrade reads of them.
+use super::PLACES;
+use edit_answers::{Report, StoreOptions, store_answers};
+use edit_store::{FaultStore, MemoryStore, Store};
+use std::alloc::Global;
 use std::test::Fail;
-
-const PLACES: Places<'static> = Places {
-    cache: "/c",
-    room: "/c/.run.1",
-};
 
 const OPTIONS: StoreOptions<'static> = StoreOptions {
     offline: false,

@@ -1,4 +1,5 @@
-use crate::nearest_name;
+//! Tests of names that an error suggests.
+use edit_diagnostics::nearest_name;
 
 #[test]
 fn finds_the_name_that_was_meant(rt: HostRuntime) {

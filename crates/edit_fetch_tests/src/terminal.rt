@@ -1,4 +1,7 @@
-use super::*;
+//! Tests of output to a terminal.
+use edit_terminal::TerminalWriter;
+use std::alloc::Global;
+use std::io;
 use std::io::Write;
 use std::test::Fail;
 

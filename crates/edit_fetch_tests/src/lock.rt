@@ -1,6 +1,7 @@
-use super::*;
-use crate::read_calls;
+//! Tests of lock files, and of the calls that are right against them.
 use edit_base::Error;
+use edit_lock::{Lock, adapt_calls, read_calls};
+use std::alloc::{AllocError, Global};
 use std::test::Fail;
 
 const BEFORE: &str = r#"version = 4

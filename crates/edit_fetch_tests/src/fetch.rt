@@ -1,0 +1,98 @@
+//! Tests of plans of transfers, network settings, tokens and headers.
+mod addressless;
+mod variables;
+
+use edit_fetch::{
+    Environment, FetchPlan, NetSettings, fetch_plan, is_header_text, net_settings,
+    registry_address, token_variable,
+};
+use edit_sources::config::read_configs;
+use edit_store::{MemoryStore, Store};
+use std::test::Fail;
+
+/// Lookups in two registries.
+const LOOKUPS: &str =
+    "sparse+https://index.example/\tserde\tse/rd/serde\nfile:///idx\tabc\t3/a/abc\n";
+
+/// The configuration of curl for these lookups.
+const CONFIG: &[u8] = b"url = \"https://index.example/se/rd/serde\"
+output = \"/room/1\"
+etag-save = \"/room/1.etag\"
+write-out = \"1\\t%{response_code}\\t%{exitcode}\\t%{num_redirects}\\t%{errormsg}\\n\"
+location
+max-redirs = \"5\"
+proto = \"=https\"
+proto-redir = \"=https\"
+silent
+globoff
+compressed
+user-agent = \"cargo-edit/0.1.0\"
+connect-timeout = \"30\"
+speed-limit = \"10\"
+speed-time = \"30\"
+retry = \"3\"
+";
+
+#[test]
+fn plans_only_sparse_lookups(rt: HostRuntime) -> Result<(), Fail> {
+    let settings = NetSettings {
+        offline: false,
+        retry: 3,
+        timeout: 30,
+        proxy: None,
+        cainfo: None,
+    };
+    let plan = FetchPlan {
+        cache: "/cache",
+        room: "/room",
+        settings: &settings,
+        tokens: &[],
+    };
+    let mut store = MemoryStore::new(rt.alloc());
+    let count = fetch_plan(rt.alloc(), &mut store, &plan, LOOKUPS)?;
+    assert_eq!(rt; count, Some(1));
+    let config = store.read(rt.alloc(), "/room/curl")?.ok_or("no file")?;
+    assert_eq!(rt; config.as_slice(), CONFIG);
+    Ok(())
+}
+
+/// A configuration file of cargo.
+const SETTINGS: &[u8] = b"[net]\nretry = 7\n[http]\ntimeout = 5\ncainfo = \"ca.pem\"\n";
+
+#[test]
+fn environment_before_file(rt: HostRuntime) -> Result<(), Fail> {
+    let mut store = MemoryStore::new(rt.alloc());
+    store.write(rt.alloc(), "/w/.cargo/config.toml", SETTINGS)?;
+    let configs = read_configs(rt.alloc(), &mut store, "/w/Cargo.toml", None)?;
+    let environment = Environment {
+        offline: Some("true"),
+        retry: Some("9"),
+        timeout: None,
+        proxy: None,
+        cainfo: None,
+    };
+    let settings = net_settings(rt.alloc(), &mut store, &environment, &configs)?;
+    assert!(rt; settings.offline);
+    assert_eq!(rt; settings.retry, 9);
+    assert_eq!(rt; settings.timeout, 5);
+    assert_eq!(rt; settings.cainfo.as_deref(), Some("/w/ca.pem"));
+    Ok(())
+}
+
+#[test]
+fn names_token_variable(rt: HostRuntime) -> Result<(), Fail> {
+    let variable = token_variable(rt.alloc(), "my-registry")?.ok_or("no variable")?;
+    assert_eq!(rt; variable.as_str(), "CARGO_REGISTRIES_MY_REGISTRY_TOKEN");
+    let address = registry_address(rt.alloc(), "HTTPS://Index.Example")?.ok_or("no address")?;
+    assert_eq!(rt; address.as_str(), "https://index.example/");
+    assert!(rt; registry_address(rt.alloc(), "index.example")?.is_none());
+    Ok(())
+}
+
+#[test]
+fn texts_of_headers(rt: HostRuntime) -> Result<(), Fail> {
+    assert!(rt; is_header_text(b"Bearer a-token \xff~"));
+    assert!(rt; !is_header_text(b"token\n"));
+    assert!(rt; !is_header_text(b"a\x7f"));
+    Ok(())
+}

@@ -1,0 +1,2 @@
+pub mod RestrictedLemmas
+pub mod EntryLemmas
