@@ -1,5 +1,5 @@
 -- Device errors of a plan over an index: those of the store below the index, or none.
-use Rattle.std.proofs.Common.{List, None, Option, Result, arith, inl, inr, refl, subst, ℕ, ◌≡◌}
+use Rattle.std.proofs.Common.{List, Option, Result, arith, inl, inr, refl, subst, ℕ, ◌≡◌}
 use Rattle.std.proofs.lemmas.Result.{IfErr-weaker}
 use Rattle.std.specs.Prelude.{IfErr}
 use Rattle.edit_base.specs.declared.errors.Error.{Error}
@@ -74,21 +74,25 @@ pub lines_fault : {T V : Type 0} (files : T → StoreView) (index : FileIndex) (
 lines_fault files index store r counts =
     IfErr-weaker r _ _ (λ e h device. absurd (none_raised (h device).1)) counts
 
--- what holds over an index in files without a bound holds over the files of its store
-pub over_files : {T : Type 0} (files : T → StoreView) (index : LocalIndex T) (store : T) (P : IndexView → Type 0)
-    → store_of index ≡ store → bound_of index ≡ None
-    → P (local_view (files_of files index)) → P (local_view (files store))
-over_files {T} files index store P is unbound h =
-    subst (λ (s : T). P (local_view (files s))) is
-    (subst (λ (b : Option PublishedBefore). P (local_view (published_view b (files (store_of index))))) unbound h)
+-- what holds over an index in files with a bound holds over the files of its store, as the bound shows them
+pub over_files : {T : Type 0} (files : T → StoreView) (index : LocalIndex T) (store : T)
+    (bound : Option PublishedBefore) (P : IndexView → Type 0)
+    → store_of index ≡ store → bound_of index ≡ bound
+    → P (local_view (files_of files index)) → P (local_view (published_view bound (files store)))
+over_files {T} files index store bound P is bounded h =
+    subst (λ (s : T). P (local_view (published_view bound (files s)))) is
+    (subst (λ (b : Option PublishedBefore). P (local_view (published_view b (files (store_of index)))))
+    bounded h)
 
--- what holds over a folder of registries without a bound holds over the files of its store
+-- what holds over a folder of registries with a bound holds over the files of its store, as the bound shows
+-- them
 pub over_folder : {T : Type 0} (files : T → StoreView) (index : DirIndex T) (store : T) (folder : List ℕ)
-    (P : IndexView → Type 0) → folder_store index ≡ store → folder_bound index ≡ None
-    → folder_of index ≡ folder → P (dir_view (folder_of index) (folder_files files index))
-    → P (dir_view folder (files store))
-over_folder {T} files index store folder P is unbound named h =
-    subst (λ (f : List ℕ). P (dir_view f (files store))) named
-    (subst (λ (s : T). P (dir_view (folder_of index) (files s))) is
-    (subst (λ (b : Option PublishedBefore). P (dir_view (folder_of index) (published_view b (files (folder_store index)))))
-    unbound h))
+    (bound : Option PublishedBefore) (P : IndexView → Type 0) → folder_store index ≡ store
+    → folder_bound index ≡ bound → folder_of index ≡ folder
+    → P (dir_view (folder_of index) (folder_files files index))
+    → P (dir_view folder (published_view bound (files store)))
+over_folder {T} files index store folder bound P is bounded named h =
+    subst (λ (f : List ℕ). P (dir_view f (published_view bound (files store)))) named
+    (subst (λ (s : T). P (dir_view (folder_of index) (published_view bound (files s)))) is
+    (subst (λ (b : Option PublishedBefore).
+    P (dir_view (folder_of index) (published_view b (files (folder_store index))))) bounded h))
