@@ -105,7 +105,7 @@ fn switches<'a>() -> [ArgSpec<'a>; 9]
 }
 
 /// The options that say what may be upgraded.
-fn choices<'a>() -> [ArgSpec<'a>; 4]
+fn choices<'a>() -> [ArgSpec<'a>; 5]
     ensures { map arg_rule result ≡ choices }
 {
     [
@@ -128,6 +128,11 @@ fn choices<'a>() -> [ArgSpec<'a>; 4]
             "Upgrades pinned requirements to the latest version",
         )
         .default_value("ignore"),
+        plain(
+            "level",
+            Form::Choice("patch|minor|major"),
+            "Upgrades only within this level of the old requirement",
+        ),
         plain(
             "recursive",
             Form::Truth("true|false"),
