@@ -3,7 +3,7 @@ use Rattle.std.specs.Prelude.{◌&&◌, ℕ, Bool, List, [], Option, Some, None,
 use Rattle.std.specs.Str.{bytes_eq}
 use Rattle.clap.specs.Words.{Row, Text}
 use Rattle.edit_shown.specs.declared.presentation.MessageFormat.{MessageFormat}
-use Rattle.edit_shown.specs.declared.presentation.MessageFormat.TheVariants.{Human, Json, Markdown}
+use Rattle.edit_shown.specs.declared.presentation.MessageFormat.TheVariants.{Human, Json, Markdown, Github}
 use Rattle.edit_shown.specs.declared.presentation.Presentation.{Presentation}
 use Rattle.edit_program.specs.ParsedOptions.{is_given, value_of}
 use Rattle.edit_program.specs.declared.output_format.PlanCommand.{PlanCommand}
@@ -16,7 +16,8 @@ without_diffs format diff = if diff then None else Some (record { format = forma
 -- a format that only an upgrade has, from `--message-format` and `--diff`
 abbrev pub upgrade_format : Text → Bool → Option Presentation
 upgrade_format format diff =
-    if bytes_eq format (codes "markdown") then without_diffs Markdown diff else None
+    if bytes_eq format (codes "markdown") then without_diffs Markdown diff
+    else (if bytes_eq format (codes "github") then without_diffs Github diff else None)
 
 -- a format beside the two that each command has
 abbrev pub other_format : PlanCommand → Text → Bool → Option Presentation

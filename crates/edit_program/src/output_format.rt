@@ -46,7 +46,8 @@ fn upgrade_format<'a>(format: &'a str, diff: bool) -> Result<Presentation, ArgsE
 {
     match format {
         "markdown" => without_diffs(MessageFormat::Markdown, "--message-format markdown", diff),
-        _ => Err(format_fault("human|json|markdown", format)),
+        "github" => without_diffs(MessageFormat::Github, "--message-format github", diff),
+        _ => Err(format_fault("human|json|markdown|github", format)),
     }
 }
 
