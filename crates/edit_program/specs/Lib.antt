@@ -1,7 +1,9 @@
 pub mod Absent
 pub mod ParsedOptions
 pub mod Commands
+pub mod Followed
 pub mod Merged
+pub mod Merging
 pub mod Presented
 pub mod Run
 pub mod Runs
@@ -14,6 +16,7 @@ pub mod NoIndex
 pub mod UpgradeCauses
 pub mod PrintedLookups
 pub mod Planned
+pub mod Reading
 pub mod Upgrading
 pub mod SetVersionCauses
 pub mod Plans

@@ -7,7 +7,7 @@ use Rattle.edit_steps.specs.declared.upgrade_read.source_request.RustChoice.TheV
 use Rattle.edit_program.specs.declared.upgrade_run.upgrade_args.UpgradeArgs.{UpgradeArgs}
 use Rattle.edit_version.specs.RustVersions.{numbers_of, rust_of}
 use Rattle.edit_version.specs.declared.rust_version.RustVersion.{RustVersion}
-use Rattle.edit_program.specs.ParsedOptions.{HasOptions, HasBadStatus, is_given, status_of}
+use Rattle.edit_program.specs.ParsedOptions.{HasBadStatus, HasGivenChoices, HasOptions, is_given, status_of}
 use Rattle.edit_program.specs.Presented.{presentation_of}
 use Rattle.edit_program.specs.declared.output_format.PlanCommand.TheVariants.{Upgrade}
 
@@ -54,6 +54,8 @@ pub record HasUpgradeArgs (rows : List Row) (w : UpgradeArgs) : Type 0 where
   pub rust : IsRust (first_of (codes "rust-version") rows)
       (is_given (codes "ignore-rust-version") rows) w.rust
   pub options : HasOptions rows w.options
+  pub choices : HasGivenChoices rows w.given
+  pub no_policy : w.no_policy ≡ is_given (codes "no-policy") rows
   pub presentation : presentation_of Upgrade rows ≡ Some w.presentation
   pub calls : given w.update_calls ≡ first_of (codes "update-calls") rows
   pub lock : given w.lock_file ≡ first_of (codes "lock-file") rows

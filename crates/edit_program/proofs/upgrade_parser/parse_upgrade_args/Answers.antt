@@ -48,6 +48,8 @@ returns-clause-asks c =
           (subst (λ (a : Option Text). IsRust a c.is_given-ignored.result c.in_ok-rust.rust) named
           c.in_ok-rust.ensures.ok);
       options = c.in_ok-options.ensures.options;
+      choices = c.given_choices.ensures;
+      no_policy = search rules;
       presentation = c.in_ok-presentation.ensures.ok;
       calls = option_text_is c.args.matches.now (codes "update-calls") c.get_str-8.result _ refl c.get_str-8.ensures;
       lock = option_text_is c.args.matches.now (codes "lock-file") c.get_str-9.result _ refl c.get_str-9.ensures;
