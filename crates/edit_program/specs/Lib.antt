@@ -1,5 +1,4 @@
 pub mod Absent
-pub mod ParsedBound
 pub mod ParsedOptions
 pub mod Commands
 pub mod Merged

@@ -18,7 +18,7 @@ returns-in_err-lock-clause-error g c =
     let old = g.S.Store.view c.args.files.now in
     let new = g.S.Store.view c.read_lock.new.files in
     let e = c.in_err-lock.field-0.0 in
-    refusal_has c.from_residual.result e (λ error. IsReadCause current home (to_request args) old new error
+    failure_has c.from_residual.result e (λ error. IsReadCause current home (to_request args) old new error
     ⊎ (old.tells ≡ true → HasNoLock args.to_lockfile old.file_at current (given args.lock_file) error))
     c.from_residual.ensures.1
     (lock_refused args.to_lockfile old new current home (given args.lock_file) (to_request args) e.error c.in_err-lock.ensures.error)
@@ -32,7 +32,7 @@ returns-in_err-sources-clause-error g c =
     let mid = g.S.Store.view c.read_lock.new.files in
     let new = g.S.Store.view c.read_sources.new.files in
     let e = c.in_err-sources.field-0.0 in
-    refusal_has c.from_residual-in_err-sources.result e
+    failure_has c.from_residual-in_err-sources.result e
     (λ error. IsReadCause current home (to_request args) old new error
     ⊎ (old.tells ≡ true → HasNoLock args.to_lockfile old.file_at current (given args.lock_file) error))
     c.from_residual-in_err-sources.ensures.1
