@@ -181,6 +181,7 @@ fn sources_of(rt: &HostRuntime, folder: &str) -> CargoResult<Sources>
         metadata_json: None,
         index_file: Some("index.json"),
         index_dir: None,
+        published_before: None,
         config: None,
         default_config: None,
         rust: RustChoice::Ignored,

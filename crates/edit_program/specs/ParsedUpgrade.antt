@@ -7,6 +7,7 @@ use Rattle.edit_steps.specs.declared.upgrade_read.source_request.RustChoice.TheV
 use Rattle.edit_program.specs.declared.upgrade_run.upgrade_args.UpgradeArgs.{UpgradeArgs}
 use Rattle.edit_version.specs.RustVersions.{numbers_of, rust_of}
 use Rattle.edit_version.specs.declared.rust_version.RustVersion.{RustVersion}
+use Rattle.edit_program.specs.ParsedBound.{HasBoundFault, IsGivenBound}
 use Rattle.edit_program.specs.ParsedOptions.{HasOptions, HasBadStatus, is_given, status_of}
 use Rattle.edit_program.specs.Presented.{presentation_of}
 use Rattle.edit_program.specs.declared.output_format.PlanCommand.TheVariants.{Upgrade}
@@ -60,12 +61,13 @@ pub record HasUpgradeArgs (rows : List Row) (w : UpgradeArgs) : Type 0 where
   pub offline : w.offline ≡ is_given (codes "offline") rows
   pub to_lockfile : w.to_lockfile ≡ is_given (codes "to-lockfile") rows
   pub usable : has_lockfile_fault w.options.incompatible rows ≡ false
+  pub bound : IsGivenBound rows w.published_before
 
 -- two indexes are given, an option has an invalid value, the options for Rust versions or for the output
--- format are invalid, or `--to-lockfile` cannot be used
+-- format are invalid, `--to-lockfile` cannot be used, or the options for the time of publication are invalid
 abbrev pub HaveUpgradeFault : List Row → Type 0
 HaveUpgradeFault rows =
     (has_two_indexes rows ≡ true)
     ⊎ (HasBadStatus rows
     ⊎ (HasNoRust (first_of (codes "rust-version") rows) (is_given (codes "ignore-rust-version") rows)
-    ⊎ ((presentation_of Upgrade rows ≡ None) ⊎ HasLockfileFault rows)))
+    ⊎ ((presentation_of Upgrade rows ≡ None) ⊎ (HasLockfileFault rows ⊎ HasBoundFault rows))))

@@ -9,6 +9,7 @@ ghost use Rattle.edit_program.specs.ParsedUpgrade.{HasUpgradeArgs, HasNoRust, Ha
 use crate::args_error::{ArgsError, ArgsFault};
 use crate::lookups::{has_value, is_either_given, is_given, values_of};
 use crate::output_format::{PlanCommand, is_dry, presentation};
+use crate::publication_bound::publication_bound;
 use crate::upgrade_run::UpgradeArgs;
 use clap::ArgMatches;
 use edit_base::Error;
@@ -162,6 +163,7 @@ pub(crate) fn parse_upgrade_args<'a>(
     }
     let ignored = is_given(matches, "ignore-rust-version");
     let rust = rust_choice(alloc, matches.get_str("rust-version"), ignored)?;
+    let published_before = publication_bound(matches)?;
     let presentation = presentation(matches, PlanCommand::Upgrade)?;
     let options = options_of(alloc, matches)?;
     let to_lockfile = to_lockfile(matches, options.incompatible)?;
@@ -179,5 +181,6 @@ pub(crate) fn parse_upgrade_args<'a>(
         lock_file: matches.get_str("lock-file"),
         offline: is_given(matches, "offline"),
         to_lockfile,
+        published_before,
     })
 }

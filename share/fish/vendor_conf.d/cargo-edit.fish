@@ -10,6 +10,8 @@ complete -c cargo -n '__fish_seen_subcommand_from upgrade' -s v -l verbose -d 'R
 complete -c cargo -n '__fish_seen_subcommand_from upgrade' -s q -l quiet -d 'Reports less'
 complete -c cargo -n '__fish_seen_subcommand_from upgrade' -l never-lower -d 'Lowers no requirement'
 complete -c cargo -n '__fish_seen_subcommand_from upgrade' -l to-lockfile -d 'Raise only to the versions in Cargo.lock'
+complete -c cargo -n '__fish_seen_subcommand_from upgrade' -l published-before -x -d 'Raise only to versions published by this time, as 2026-05-01T12:00:00Z'
+complete -c cargo -n '__fish_seen_subcommand_from upgrade' -l min-age -x -d 'Raise only to versions that are at least this many days old'
 complete -c cargo -n '__fish_seen_subcommand_from upgrade' -l check -d 'Like `--dry-run`, with status 1 where something would change'
 complete -c cargo -n '__fish_seen_subcommand_from upgrade' -l message-format -a 'human json markdown' -d 'How the report is printed [possible values: human, json, markdown] [default: human]'
 complete -c cargo -n '__fish_seen_subcommand_from upgrade' -l diff -d 'Prints the changes of manifests as diffs'

@@ -20,15 +20,21 @@ returns-in_err-presentation-clause-error c =
     c.from_residual-in_err-presentation.ensures.1 (λ other.
     inr (inr (inr (inl c.in_err-presentation.ensures.error))))
 
+pub returns-in_err-published_before-clause-error : goal.returns-in_err-published_before-clause-error
+returns-in_err-published_before-clause-error c =
+    err_same c.from_residual-in_err-published_before.result c.in_err-published_before.field-0.0 _
+    c.from_residual-in_err-published_before.ensures.1 (λ other.
+    inr (inr (inr (inr (inr c.in_err-published_before.ensures.error)))))
+
 pub returns-in_err-to_lockfile-clause-error : goal.returns-in_err-to_lockfile-clause-error
 returns-in_err-to_lockfile-clause-error c =
     err_same c.from_residual-in_err-to_lockfile.result c.in_err-to_lockfile.field-0.0 _
     c.from_residual-in_err-to_lockfile.ensures.1 (λ other.
-    inr (inr (inr (inr (record {
+    inr (inr (inr (inr (inl (record {
       incompatible = c.in_ok-options.options.incompatible;
       status = c.in_ok-options.ensures.options.incompatible;
       fault = c.in_err-to_lockfile.ensures.error;
-    })))))
+    }))))))
 
 pub returns-clause-asks : goal.returns-clause-asks
 returns-clause-asks c =
@@ -54,4 +60,5 @@ returns-clause-asks c =
       offline = search rules;
       to_lockfile = c.in_ok-to_lockfile.ensures.given;
       usable = c.in_ok-to_lockfile.ensures.usable;
+      bound = c.in_ok-published_before.ensures.ok;
     }
