@@ -57,6 +57,7 @@ choices =
     record (choice_rule (codes "compatible")) { defaults = codes "allow" ∷ [] }
     ∷ record (choice_rule (codes "incompatible")) { short = Some 105; defaults = codes "ignore" ∷ [] }
     ∷ record (choice_rule (codes "pinned")) { defaults = codes "ignore" ∷ [] }
+    ∷ choice_rule (codes "level")
     ∷ record (choice_rule (codes "recursive")) { parser = Some value.Bool }
     ∷ []
 

@@ -128,7 +128,7 @@ fn ages<'a>() -> [ArgSpec<'a>; 3]
 }
 
 /// The options that say what may be upgraded.
-fn choices<'a>() -> [ArgSpec<'a>; 4]
+fn choices<'a>() -> [ArgSpec<'a>; 5]
     ensures { map arg_rule result ≡ choices }
 {
     [
@@ -151,6 +151,11 @@ fn choices<'a>() -> [ArgSpec<'a>; 4]
             "Upgrades pinned requirements to the latest version",
         )
         .default_value("ignore"),
+        plain(
+            "level",
+            Form::Choice("patch|minor|major"),
+            "Upgrades only within this level of the old requirement",
+        ),
         plain(
             "recursive",
             Form::Truth("true|false"),

@@ -18,8 +18,8 @@ use Rattle.edit_version.proofs.Forms.{least-all}
 use Rattle.edit_version.proofs.Narrows.{left_of, named-pre, right_of}
 use Rattle.edit_version.proofs.Orders.{precedence_total}
 use Rattle.edit_version.proofs.Shapes.{IsShaped}
-use Rattle.edit_upgrade.proofs.LowerLemmas.{equal-self, ge-from, ge-not_lt, ge-self, ge-trans, le-same, le-zero, lt-is, not-less, trunc-first, trunc-second}
-use Rattle.edit_upgrade.specs.Floors.{IsFloor, begins_after, is_end, comparator_version, one_begins_after}
+use Rattle.edit_version.proofs.LowerLemmas.{equal-self, ge-from, ge-not_lt, ge-self, ge-trans, le-same, le-zero, lt-is, not-less, trunc-first, trunc-second}
+use Rattle.edit_version.specs.Floors.{IsFloor, begins_after, is_end, comparator_version, one_begins_after}
 
 -- ---- one comparator
 
@@ -127,7 +127,7 @@ pub not-after : (v : Parts) (c : Held) → is_end c.0 ≡ false → begins_after
 not-after v c e h = ge-from (precedence v (comparator_version c)) (rw e at h)
 
 -- a comparator that names no later version does not begin after it
-after-not : (v : Parts) (c : Held) → is_ge (precedence v (comparator_version c)) ≡ true
+pub after-not : (v : Parts) (c : Held) → is_ge (precedence v (comparator_version c)) ≡ true
     → begins_after v c ≡ false
 after-not v c h = rw (ge-not_lt (precedence v (comparator_version c)) h) (and-false (not (is_end c.0)))
   where
@@ -141,7 +141,7 @@ or-left true y h = cc h
 or-left false y h = refl
 
 -- its second part
-or-right : (x y : Bool) → (x || y) ≡ false → y ≡ false
+pub or-right : (x y : Bool) → (x || y) ≡ false → y ≡ false
 or-right true y h = cc h
 or-right false y h = h
 

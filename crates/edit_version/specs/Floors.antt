@@ -1,6 +1,6 @@
 -- Floors: the lower bounds of requirements (own, over Cargo reference, "Specifying Dependencies", and
 -- SemVer 2.0.0, item 11).
-use Rattle.std.specs.Prelude.{◌≡◌, ◌&&◌, ℕ, List, [], Bool, true, false, not, Option, Some, None, Result, Ok, Err, unwrap_or}
+use Rattle.std.specs.Prelude.{◌≡◌, ◌&&◌, ℕ, List, [], Bool, true, false, not, Option, Some, None, Result, Ok, Err, find, option_and_then, option_map, unwrap_or}
 use Rattle.std.specs.List.{Contains, list_any}
 use Rattle.std.specs.Ordering.{is_lt}
 use Rattle.semver.specs.Parse.{Held, Parts, req_of}
@@ -8,6 +8,7 @@ use Rattle.semver.specs.declared.error.Error.{Error}
 use Rattle.semver.specs.declared.Op.{Op}
 use Rattle.semver.specs.declared.Op.TheVariants as op
 use Rattle.edit_version.specs.Laws.{precedence}
+use Rattle.edit_version.specs.Requirement.{requirement_read}
 
 -- `<` and `<=`, which bound a requirement from above only
 abbrev pub is_end : Op → Bool
@@ -34,6 +35,18 @@ pub record IsFloor (cs : List Held) (f : Parts) : Type 0 where
   pub begins : is_end comparator.0 ≡ false
   pub names : f ≡ comparator_version comparator
   pub greatest : one_begins_after cs f ≡ false
+
+-- a comparator names the floor: it is neither `<` nor `<=`, and none of the others names a later version
+abbrev pub names_floor : List Held → Held → Bool
+names_floor cs c = not (is_end c.0) && not (one_begins_after cs (comparator_version c))
+
+-- the floor of comparators, none where each is `<` or `<=`
+abbrev pub floor_in : List Held → Option Parts
+floor_in cs = option_map comparator_version (find (names_floor cs) cs)
+
+-- the floor of a requirement, none where it has none or the text cannot be parsed
+abbrev pub floor_of : List ℕ → Option Parts
+floor_of text = option_and_then floor_in (requirement_read text)
 
 -- the text is a requirement with this floor
 abbrev pub HasFloor : List ℕ → Parts → Type 0

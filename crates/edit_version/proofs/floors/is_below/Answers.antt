@@ -2,12 +2,12 @@ use Rattle.std.proofs.Common.{◌∙◌, ap}
 use Rattle.std.specs.List.{list_any}
 use Rattle.semver.specs.Identifiers.{comparator_view, parts_of}
 use Rattle.semver.specs.declared.Comparator.{Comparator}
+use Rattle.edit_version.specs.Floors.{begins_after}
 use Rattle.edit_version.specs.ReadRequirement.{text_in}
 use Rattle.edit_version.specs.Requirement.{comparators_of}
-use Rattle.edit_upgrade.specs.Floors.{begins_after}
-use Rattle.edit_upgrade.proofs.Pins.{below-read}
-use Rattle.edit_upgrade.proofs.Readable.{requirement-ok}
-use Rattle.edit_upgrade.proofs.decision.floors.is_below.Goals as goal
+use Rattle.edit_version.proofs.FloorReadings.{below-read}
+use Rattle.edit_version.proofs.Readable.{requirement-ok}
+use Rattle.edit_version.proofs.floors.is_below.Goals as goal
 
 pub returns-in-Some : goal.returns-in-Some
 returns-in-Some c =
