@@ -18,17 +18,19 @@ LEVELS = ("major", "minor", "patch", "release", "rc", "beta", "alpha")
 # Arguments of every kind, also those that are none. (--update-calls names a file of its own alone: one that
 # is read or written by the same run would be replaced. Arguments that are not UTF-8 are left out, as are
 # empty names.)
-ANY = ("-n", "--dry-run", "--check", "--locked", "--diff", "--message-format json", "--message-format human",
-       "--message-format=json", "--message-format markdown", "--message-format xml", "-i", "--incompatible",
-       "--pinned", "--pinned ignore", "--compatible", "--compatible=ignore", "--compatible maybe",
-       "--never-lower", "--recursive", "--recursive false", "--recursive=x", "-v", "-vv", "-vvvv", "-q",
-       "-qq", "-vq", "-p serde", "-p log@1", "-p log@", "-p @1", "-p a/b", "--exclude a", "--exclude", "-p",
-       "--level minor", "--level=x", "--rust-version 1.60", "--rust-version x", "--ignore-rust-version",
-       "--offline", "--workspace", "--all", "--bump minor", "--bump x", "--bump", "1.2.3", "0.0.1", "x", "-m b1", "-m +",
-       "--metadata=1.0", "--", "--help", "-h", "--version", "-V", "--nope", "-z", "--check=1", "=",
-       "--update-calls @HERE@/calls", "--manifest-path", "--manifest-path @HERE@/ws",
-       "--manifest-path @HERE@/none/Cargo.toml", "--index-dir @HERE@/ix", "--index-file @HERE@/none",
-       "\u00e9", "-\u00e9", "--exclude=", "--manifest-path=")
+ANY = ("-n", "--dry-run", "--check", "--locked", "--diff", "--message-format json",
+       "--message-format human", "--message-format=json", "--message-format markdown",
+       "--message-format github", "--message-format xml", "--color never", "--color on", "-i",
+       "--incompatible", "--pinned", "--pinned ignore", "--compatible", "--compatible=ignore",
+       "--compatible maybe", "--never-lower", "--recursive", "--recursive false", "--recursive=x", "-v",
+       "-vv", "-vvvv", "-q", "-qq", "-vq", "-p serde", "-p log@1", "-p log@", "-p @1", "-p a/b",
+       "--exclude a", "--exclude", "-p", "--level minor", "--level=x", "--rust-version 1.60",
+       "--rust-version x", "--ignore-rust-version", "--offline", "--workspace", "--all", "--bump minor",
+       "--bump x", "--bump", "1.2.3", "0.0.1", "x", "-m b1", "-m +", "--metadata=1.0", "--", "--help",
+       "-h", "--version", "-V", "--nope", "-z", "--check=1", "=", "--update-calls @HERE@/calls",
+       "--manifest-path", "--manifest-path @HERE@/ws", "--manifest-path @HERE@/none/Cargo.toml",
+       "--index-dir @HERE@/ix", "--index-file @HERE@/none", "\u00e9", "-\u00e9", "--exclude=",
+       "--manifest-path=")
 
 
 def choice(rng, long, short, value):

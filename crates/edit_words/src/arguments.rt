@@ -184,7 +184,7 @@ fn selections<'a>() -> [ArgSpec<'a>; 2]
 }
 
 /// What help says of the formats of an upgrade's report.
-const FORMATS: &str = "How the report is printed [possible values: human, json, markdown]";
+const FORMATS: &str = "How the report is printed [possible values: human, json, markdown, github]";
 
 /// A subcommand with the arguments of `upgrade`.
 fn upgrade_command<'a>(
