@@ -1,0 +1,84 @@
+-- Sources without a URL, with one more at the end.
+use Rattle.std.proofs.Common.{◌≡◌, ℕ, List, [], ◌∷◌, ◌++◌, Bool, true, false, refl, ap, ◌∙◌, sym, subst}
+use Rattle.std.specs.Prelude.{◌&&◌, ◌||◌, if◌then◌else◌, not}
+use Rattle.std.specs.List.{filter, list_any}
+use Rattle.std.specs.Str.{bytes_eq}
+use Rattle.std.proofs.lemmas.List.{append-nil}
+use Rattle.std.proofs.lemmas.List.Elements.{filter-append}
+use Rattle.std.proofs.lemmas.Map.Views.{any-filter_same}
+use Rattle.std.proofs.lemmas.Slice.Eq.{bytes_eq-Decides}
+use Rattle.edit_fetch.specs.Addressless.{Place, each_key_once, is_addressless, without_address}
+use Rattle.edit_sources.specs.declared.config.Config.{Config}
+
+-- whether one of some sources has this key
+abbrev pub has_key : List ℕ → List Place → Bool
+has_key key sources = list_any (λ s. bytes_eq s.0 key) sources
+
+or-and-not : (a b : Bool) → (a || (not a && b)) ≡ (a || b)
+or-and-not true b = refl
+or-and-not false b = refl
+
+-- leaving out a key that stands before leaves out no key
+has_key-once : (key : List ℕ) (sources : List Place) → has_key key (each_key_once sources) ≡ has_key key sources
+has_key-once key [] = refl
+has_key-once key (source ∷ sources) =
+    ap (λ b. bytes_eq source.0 key || b)
+    (any-filter_same (λ s. bytes_eq s.0 key) (λ other. not (bytes_eq source.0 other.0))
+    (not (bytes_eq source.0 key)) (λ other is. ap (λ k. not (bytes_eq source.0 k))
+    ((bytes_eq-Decides other.0 key).0 is)) (each_key_once sources))
+    ∙ or-and-not (bytes_eq source.0 key) (has_key key (each_key_once sources))
+    ∙ ap (λ b. bytes_eq source.0 key || b) (has_key-once key sources)
+
+-- a source at the end stays where no source before it has its key
+once-more : (sources : List Place) (s : Place)
+    → each_key_once (sources ++ s ∷ []) ≡ each_key_once sources ++ (if has_key s.0 sources then [] else s ∷ [])
+once-more [] s = refl
+once-more (source ∷ sources) s =
+    ap (λ ss. source ∷ filter (λ other. not (bytes_eq source.0 other.0)) ss) (once-more sources s)
+    ∙ ap (λ ss. source ∷ ss) (filter-append (λ other. not (bytes_eq source.0 other.0)) (each_key_once sources)
+    (if has_key s.0 sources then [] else s ∷ []))
+    ∙ ap (λ ss. source ∷ filter (λ other. not (bytes_eq source.0 other.0)) (each_key_once sources) ++ ss)
+    (at_end (bytes_eq source.0 s.0) (has_key s.0 sources) refl)
+  where
+    at_end : (same seen : Bool) → bytes_eq source.0 s.0 ≡ same
+        → filter (λ other. not (bytes_eq source.0 other.0)) (if seen then [] else s ∷ [])
+        ≡ (if same || seen then [] else s ∷ [])
+    at_end true true e = refl
+    at_end false true e = refl
+    at_end true false e = ap (λ b. if not b then s ∷ [] else []) e
+    at_end false false e = ap (λ b. if not b then s ∷ [] else []) e
+
+-- a source that has a URL changes nothing
+pub passed_over : (configs : List Config) (sources : List Place) (s : Place)
+    → is_addressless configs s.0 ≡ false → without_address configs (sources ++ s ∷ []) ≡ without_address configs sources
+passed_over configs sources s is =
+    ap each_key_once (filter-append (λ o. is_addressless configs o.0) sources (s ∷ [])
+    ∙ ap (λ b. filter (λ o. is_addressless configs o.0) sources ++ (if b then s ∷ [] else [])) is
+    ∙ append-nil (filter (λ o. is_addressless configs o.0) sources))
+
+more : (configs : List Config) (sources : List Place) (s : Place) → is_addressless configs s.0 ≡ true
+    → without_address configs (sources ++ s ∷ [])
+    ≡ without_address configs sources ++ (if has_key s.0 (without_address configs sources) then [] else s ∷ [])
+more configs sources s is =
+    ap each_key_once (filter-append (λ o. is_addressless configs o.0) sources (s ∷ [])
+    ∙ ap (λ b. filter (λ o. is_addressless configs o.0) sources ++ (if b then s ∷ [] else [])) is)
+    ∙ once-more (filter (λ o. is_addressless configs o.0) sources) s
+    ∙ ap (λ b. without_address configs sources ++ (if b then [] else s ∷ []))
+    (sym (has_key-once s.0 (filter (λ o. is_addressless configs o.0) sources)))
+
+-- a source without a URL whose key is listed changes nothing
+pub is_known : (configs : List Config) (sources : List Place) (s : Place) → is_addressless configs s.0 ≡ true
+    → has_key s.0 (without_address configs sources) ≡ true
+    → without_address configs (sources ++ s ∷ []) ≡ without_address configs sources
+is_known configs sources s is known =
+    more configs sources s is
+    ∙ ap (λ b. without_address configs sources ++ (if b then [] else s ∷ [])) known
+    ∙ append-nil (without_address configs sources)
+
+-- one whose key is not listed is listed behind the others
+pub is_next : (configs : List Config) (sources : List Place) (s : Place) → is_addressless configs s.0 ≡ true
+    → has_key s.0 (without_address configs sources) ≡ false
+    → without_address configs (sources ++ s ∷ []) ≡ without_address configs sources ++ s ∷ []
+is_next configs sources s is unknown =
+    more configs sources s is
+    ∙ ap (λ b. without_address configs sources ++ (if b then [] else s ∷ [])) unknown
