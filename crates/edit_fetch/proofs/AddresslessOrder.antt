@@ -1,14 +1,17 @@
 -- Sources without a URL, with one more at the end.
-use Rattle.std.proofs.Common.{◌≡◌, ℕ, List, [], ◌∷◌, ◌++◌, Bool, true, false, refl, ap, ◌∙◌, sym, subst}
-use Rattle.std.specs.Prelude.{◌&&◌, ◌||◌, if◌then◌else◌, not}
-use Rattle.std.specs.List.{filter, list_any}
+use Rattle.std.proofs.Common.{◌≡◌, ◌<◌, ◌+◌, ℕ, List, [], ◌∷◌, ◌++◌, Bool, true, false, String, get_or, length, map, refl, ap, ◌∙◌, sym, take}
+use Rattle.std.specs.Prelude.{◌×◌, ◌&&◌, ◌||◌, if◌then◌else◌, not}
+use Rattle.std.specs.List.{filter, flat_map, list_any}
 use Rattle.std.specs.Str.{bytes_eq}
-use Rattle.std.proofs.lemmas.List.{append-nil}
+use Rattle.std.specs.declared.alloc.Global.{Global}
+use Rattle.std.proofs.lemmas.List.{append-nil, append_assoc, map_more, take_more}
+use Rattle.std.proofs.lemmas.List.Concat.{flat_map-append}
 use Rattle.std.proofs.lemmas.List.Elements.{filter-append}
 use Rattle.std.proofs.lemmas.Map.Views.{any-filter_same}
 use Rattle.std.proofs.lemmas.Slice.Eq.{bytes_eq-Decides}
-use Rattle.edit_fetch.specs.Addressless.{Place, each_key_once, is_addressless, without_address}
+use Rattle.edit_fetch.specs.Addressless.{Place, each_key_once, is_addressless, place_in, sources_in, without_address}
 use Rattle.edit_sources.specs.declared.config.Config.{Config}
+use Rattle.edit_sources.specs.declared.config.ConfigSource.{ConfigSource}
 
 -- whether one of some sources has this key
 abbrev pub has_key : List ℕ → List Place → Bool
@@ -82,3 +85,22 @@ pub is_next : (configs : List Config) (sources : List Place) (s : Place) → is_
 is_next configs sources s is unknown =
     more configs sources s is
     ∙ ap (λ b. without_address configs sources ++ (if b then [] else s ∷ [])) unknown
+
+-- the sources of files, with those of one file more
+pub next_file : (configs : List Config) (i : ℕ) (c : Config) → i < length configs → c ≡ get_or configs i c
+    → flat_map sources_in (take i configs) ++ sources_in c ≡ flat_map sources_in (take (i + 1) configs)
+next_file configs i c within is =
+    ap (λ ss. flat_map sources_in (take i configs) ++ ss) (sym (append-nil (sources_in c)))
+    ∙ sym (flat_map-append sources_in (take i configs) (c ∷ []))
+    ∙ ap (λ d. flat_map sources_in (take i configs ++ d ∷ [])) is
+    ∙ sym (ap (flat_map sources_in) (take_more configs i c within))
+
+-- the sources of a file so far, with one more
+pub next_source : (before : List Place) (c : Config) (j : ℕ) (s : String Global × ConfigSource)
+    → j < length c.sources.items → s ≡ get_or c.sources.items j s
+    → (before ++ map (place_in c) (take j c.sources.items)) ++ place_in c s ∷ []
+    ≡ before ++ map (place_in c) (take (j + 1) c.sources.items)
+next_source before c j s within is =
+    append_assoc before (map (place_in c) (take j c.sources.items)) (place_in c s ∷ [])
+    ∙ ap (λ e. before ++ (map (place_in c) (take j c.sources.items) ++ place_in c e ∷ [])) is
+    ∙ sym (ap (λ ss. before ++ ss) (map_more (place_in c) c.sources.items j s within))
