@@ -1,5 +1,5 @@
 -- Sources of configuration files without a URL, and the lines that give each of them a placeholder URL.
-use Rattle.std.specs.Prelude.{ℕ, List, [], ◌∷◌, ◌++◌, ◌×◌, Option, Some, None, Bool, true, false, String, ◌&&◌, codes, is_none, map, not, string_bytes}
+use Rattle.std.specs.Prelude.{ℕ, List, [], ◌∷◌, ◌++◌, Option, Some, None, Bool, true, false, String, ◌&&◌, codes, is_none, map, not, string_bytes}
 use Rattle.std.specs.List.{filter, flat_map}
 use Rattle.std.specs.Str.{bytes_eq}
 use Rattle.std.specs.declared.alloc.Global.{Global}
