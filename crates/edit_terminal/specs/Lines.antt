@@ -28,6 +28,10 @@ is_heading line =
 abbrev pub is_underline : List ℕ → Bool
 is_underline line = starts_with nat_eq line (codes "=") && list_all (λ b. (b == 61) || (b == 32)) line
 
+-- the first line of a diff
+abbrev pub is_diff_start : List ℕ → Bool
+is_diff_start line = starts_with nat_eq line (codes "--- ")
+
 -- the line has the titles of a table, or underlines them
 abbrev pub is_title : List ℕ → Bool
 is_title line = is_heading line || is_underline line
