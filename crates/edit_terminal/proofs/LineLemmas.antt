@@ -1,5 +1,5 @@
 -- Tests of lines.
-use Rattle.std.proofs.Common.{◌≡◌, ◌∙◌, ℕ, ◌-◌, ◌<◌, ◌≤◌, List, [], ◌∷◌, Bool, Option, None, Some, true, ◌&&◌, arith, drop, length, not, rules, subst, sym, take}
+use Rattle.std.proofs.Common.{◌≡◌, ◌∙◌, ℕ, ◌-◌, ◌<◌, ◌≤◌, List, [], ◌∷◌, Bool, Option, None, Some, true, ◌&&◌, arith, drop, length, not, sym, take}
 use Rattle.std.specs.Prelude.{◌==◌, codes, nat_eq}
 use Rattle.std.specs.List.{position, starts_with}
 use Rattle.std.proofs.lemmas.Bool.{and_parts}

@@ -1,5 +1,5 @@
 -- Lines of a report, by their form (own).
-use Rattle.std.specs.Prelude.{ℕ, List, [], ◌∷◌, ◌++◌, Bool, not, ◌&&◌, ◌||◌, ◌==◌, codes, drop, if◌then◌else◌, length, nat_eq, nat_le, position, take}
+use Rattle.std.specs.Prelude.{ℕ, List, [], Bool, not, ◌&&◌, ◌||◌, ◌==◌, codes, drop, if◌then◌else◌, length, nat_eq, nat_le, position, take}
 use Rattle.std.specs.Char.{is_ascii_alphabetic}
 use Rattle.std.specs.List.{list_all, starts_with}
 use Rattle.std.specs.Option.{option_map_or}

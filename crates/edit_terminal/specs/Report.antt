@@ -5,7 +5,6 @@ use Rattle.edit_terminal.specs.Lines.{beginning, is_diff_start, is_title, is_und
 use Rattle.edit_terminal.specs.Rows.{column_starts, is_row, row_text}
 use Rattle.edit_terminal.specs.Shown.{terminal_chars}
 use Rattle.edit_terminal.specs.Styles.{style_if, styled}
-use Rattle.edit_terminal.specs.declared.styles.Style.{Style}
 use Rattle.edit_terminal.specs.declared.styles.Style.TheVariants.{Title}
 
 -- a message whose beginning has a style, where styles are wanted

@@ -1,5 +1,5 @@
 -- Rows of a table, whose cells are padded by bytes, with cells as wide as a terminal shows them (own).
-use Rattle.std.specs.Prelude.{ℕ, ◌+◌, ◌-◌, List, [], ◌∷◌, ◌++◌, Bool, false, not, ◌&&◌, ◌||◌, ◌==◌, chars, drop, filter, if◌then◌else◌, length, min, nat_eq, replicate, slice_index, slice_index_or, take}
+use Rattle.std.specs.Prelude.{ℕ, ◌+◌, ◌-◌, List, ◌++◌, Bool, false, not, ◌&&◌, ◌||◌, ◌==◌, chars, drop, filter, if◌then◌else◌, length, min, replicate, slice_index, slice_index_or, take}
 use Rattle.std.specs.List.{flat_map, list_all, range_with_len}
 use Rattle.std.specs.Str.{bytes_eq, is_utf8}
 use Rattle.unicode_width.specs.Width.{str_width}

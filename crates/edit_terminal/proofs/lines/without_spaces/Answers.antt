@@ -1,6 +1,5 @@
-use Rattle.std.proofs.Common.{◌≡◌, Option, ℕ, not, rules, tests}
+use Rattle.std.proofs.Common.{not, rules, tests}
 use Rattle.std.specs.Prelude.{◌==◌}
-use Rattle.std.specs.List.{position}
 use Rattle.std.proofs.lemmas.Iterator.{YieldsList-from_slice}
 use Rattle.std.proofs.lemmas.Iterator.Search.{position_from_yields_List}
 use Rattle.edit_terminal.proofs.LineLemmas.{spaces_alone, spaces_found}

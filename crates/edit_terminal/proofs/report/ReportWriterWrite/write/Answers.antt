@@ -1,4 +1,4 @@
-use Rattle.std.proofs.Common.{◌∙◌, ap, ap₂, get_or, subst, sym, take}
+use Rattle.std.proofs.Common.{◌∙◌, ap, ap₂, get_or, subst, sym}
 use Rattle.std.specs.Io.KnownBytes.{Appends}
 use Rattle.std.proofs.KnownBytes.{Appends-trans}
 use Rattle.edit_terminal.specs.Report as spec
