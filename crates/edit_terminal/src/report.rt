@@ -122,6 +122,21 @@ impl<W: io::Write + Drop> ReportWriter<W> {
         Ok(())
     }
 
+    /// Writes the line that has not ended, where one has begun.
+    fn write_rest(&mut self) -> io::Result<()>
+        ensures line { OnOk result (self.new.line.items ≡ []) }
+        ensures starts { self.new.starts.items ≡ self.old.starts.items }
+        ensures wanted { self.new.wanted ≡ self.old.wanted }
+        ensures shows { OnOk result (Appends (W.contents self.old.to) (W.contents self.new.to)
+            (spec.rest_text self.old.wanted self.old.starts.items self.old.line.items)) }
+    {
+        if !self.line.is_empty() {
+            write_line(&mut self.to, self.wanted, &self.starts, &self.line)?;
+            self.line.clear();
+        }
+        Ok(())
+    }
+
     /// Takes a byte of a report: holds it, or writes the line that it ends.
     fn push_byte(&mut self, byte: u8) -> io::Result<()>
         ensures held { OnOk result (spec.held self.new.line.items self.new.starts.items
@@ -153,11 +168,13 @@ impl<W: io::Write + Drop> io::Write for ReportWriter<W> {
         Ok(buf.len())
     }
 
-    fn flush(&mut self) -> io::Result<()> {
-        if !self.line.is_empty() {
-            write_line(&mut self.to, self.wanted, &self.starts, &self.line)?;
-            self.line.clear();
-        }
+    fn flush(&mut self) -> io::Result<()>
+        ensures line { OnOk result (self.new.line.items ≡ []) }
+        ensures starts { self.new.starts.items ≡ self.old.starts.items }
+        ensures shows { OnOk result (Appends (W.contents self.old.to) (W.contents self.new.to)
+            (spec.rest_text self.old.wanted self.old.starts.items self.old.line.items)) }
+    {
+        self.write_rest()?;
         self.to.flush()
     }
 }
