@@ -11,11 +11,11 @@ use Rattle.std.proofs.lemmas.Str.{IsUtf8-from_is_utf8, is_utf8-from_IsUtf8}
 use Rattle.edit_base.specs.Errors.{IsMemory}
 use Rattle.edit_base.specs.declared.errors.Error.{Error}
 use Rattle.edit_syntax.specs.FormOf.{form_of}
-use Rattle.edit_syntax.specs.Grammar.{Text, text}
+use Rattle.edit_syntax.specs.Grammar.{Text}
 use Rattle.edit_syntax.proofs.Members.{Among, contained_among}
 use Rattle.edit_tree.specs.Assertions.{Assertion, AreCompatible, AreShort, IsDocument, Place, are_compatible, assertions, same_place}
 use Rattle.edit_tree.specs.Tree.{is_value_at}
-use Rattle.edit_tree.specs.Written.{IsWrittenAt, PlacedValue, start_of, values}
+use Rattle.edit_tree.specs.Written.{PlacedValue, start_of, values}
 use Rattle.edit_tree.proofs.SamePlace.{same_place_is, same_place_self}
 use Rattle.edit_tree.proofs.Shallow.{manifest_form}
 use Rattle.edit_tree.proofs.UniqueValues.{listed_value, values_unique}

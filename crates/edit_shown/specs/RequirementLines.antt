@@ -6,7 +6,7 @@ use Rattle.std.specs.Str.{is_utf8}
 use Rattle.edit_syntax.specs.FormOf.{form_of}
 use Rattle.edit_syntax.specs.Grammar.{Text}
 use Rattle.edit_tree.specs.Assertions.{Assertion, Place, are_compatible, assertions, at, key, same_place}
-use Rattle.edit_tree.specs.Written.{PlacedValue, start_of, values}
+use Rattle.edit_tree.specs.Written.{start_of, values}
 
 -- ---- documents
 
