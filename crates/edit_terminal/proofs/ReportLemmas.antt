@@ -8,7 +8,8 @@ use Rattle.edit_terminal.specs.Report.{Held, held_after, next, report_text, writ
 
 -- what is written of bytes, and one behind them
 report_more : (wanted : Bool) (h : Held) (bytes : List ℕ) (b : ℕ)
-    → report_text wanted h (bytes ++ b ∷ []) ≡ report_text wanted h bytes ++ written_at wanted (held_after h bytes) b
+    → report_text wanted h (bytes ++ b ∷ [])
+    ≡ report_text wanted h bytes ++ written_at wanted (held_after h bytes) b
 report_more wanted h [] b = append-nil (written_at wanted h b)
 report_more wanted h (c ∷ bytes) b =
     ap (λ x. written_at wanted h c ++ x) (report_more wanted (next h c) bytes b)

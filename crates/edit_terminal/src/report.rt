@@ -11,10 +11,10 @@ use std::alloc::{AllocError, Global};
 use std::io::ErrorKind;
 use std::{io, str};
 
-/// A writer of reports to a terminal: it shows each character as `write_for_terminal` does, aligns the columns
-/// of tables as the terminal shows them, and, where that is wanted, writes titles, the beginnings of messages
-/// and changed requirements in styles. It takes lines of UTF-8, in pieces of any length; a line that is no
-/// UTF-8 is an error. A line is written once it has ended, or at a flush.
+/// A writer of reports to a terminal: it shows each character as `write_for_terminal` does, aligns the
+/// columns of tables as the terminal shows them, and, where that is wanted, writes titles, the beginnings of
+/// messages and changed requirements in styles. It takes lines of UTF-8, in pieces of any length; a line that
+/// is no UTF-8 is an error. A line is written once it has ended, or at a flush.
 #[derive(Drop)]
 pub struct ReportWriter<W: io::Write + Drop> {
     to: W,
@@ -160,7 +160,8 @@ impl<W: io::Write + Drop> io::Write for ReportWriter<W> {
         ensures held { OnOk result (spec.held self.new.line.items self.new.starts.items
             ≡ spec.held_after (spec.held self.old.line.items self.old.starts.items) buf.now) }
         ensures shows { OnOk result (Appends (W.contents self.old.to) (W.contents self.new.to)
-            (spec.report_text self.old.wanted (spec.held self.old.line.items self.old.starts.items) buf.now)) }
+            (spec.report_text self.old.wanted (spec.held self.old.line.items self.old.starts.items)
+            buf.now)) }
     {
         for byte in buf {
             self.push_byte(*byte)?;
