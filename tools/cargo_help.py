@@ -5,7 +5,7 @@ import textwrap
 import help_text
 
 # options of the program that the scripts give it, and people do not
-PLUMBING = {"--metadata-json", "--index-file", "--index-dir", "--lock-file", "--config", "--default-config"}
+PLUMBING = {"--metadata-json", "--index-file", "--index-dir", "--lock-file", "--config", "--default-config", "--now"}
 
 # options that mean more for a command of cargo than for the program alone
 TEXTS = {

@@ -11,24 +11,26 @@ VALUED = {"--compatible": ("allow", "true", "ignore", "false"),
           "-i": ("allow", "true", "ignore", "false"), "--pinned": ("allow", "true", "ignore", "false"),
           "--recursive": ("true", "false")}
 YES = ("allow", "true")
-NEED_VALUE = ("--rust-version", "-p", "--package", "--exclude", "--index-file", "--metadata-json",
+NEED_VALUE = ("--rust-version", "-p", "--package", "--exclude", "--level", "--index-file", "--metadata-json",
               "--manifest-path")
 MANIFESTS = ("@HERE@/ws/Cargo.toml", "@HERE@/ws", "Cargo.toml")
 LEVELS = ("major", "minor", "patch", "release", "rc", "beta", "alpha")
 # Arguments of every kind, also those that are none. (--update-calls names a file of its own alone: one that
 # is read or written by the same run would be replaced. Arguments that are not UTF-8 are left out, as are
 # empty names.)
-ANY = ("-n", "--dry-run", "--check", "--locked", "--diff", "--message-format json", "--message-format human",
-       "--message-format=json", "--message-format markdown", "--message-format xml", "-i", "--incompatible",
-       "--pinned", "--pinned ignore", "--compatible", "--compatible=ignore", "--compatible maybe",
-       "--never-lower", "--recursive", "--recursive false", "--recursive=x", "-v", "-vv", "-vvvv", "-q",
-       "-qq", "-vq", "-p serde", "-p log@1", "-p log@", "-p @1", "-p a/b", "--exclude a", "--exclude", "-p",
-       "--rust-version 1.60", "--rust-version x", "--ignore-rust-version", "--offline", "--workspace",
-       "--all", "--bump minor", "--bump x", "--bump", "1.2.3", "0.0.1", "x", "-m b1", "-m +",
-       "--metadata=1.0", "--", "--help", "-h", "--version", "-V", "--nope", "-z", "--check=1", "=",
-       "--update-calls @HERE@/calls", "--manifest-path", "--manifest-path @HERE@/ws",
-       "--manifest-path @HERE@/none/Cargo.toml", "--index-dir @HERE@/ix", "--index-file @HERE@/none",
-       "\u00e9", "-\u00e9", "--exclude=", "--manifest-path=")
+ANY = ("-n", "--dry-run", "--check", "--locked", "--diff", "--message-format json",
+       "--message-format human", "--message-format=json", "--message-format markdown",
+       "--message-format github", "--message-format xml", "--color never", "--color on", "-i",
+       "--incompatible", "--pinned", "--pinned ignore", "--compatible", "--compatible=ignore",
+       "--compatible maybe", "--never-lower", "--recursive", "--recursive false", "--recursive=x", "-v",
+       "-vv", "-vvvv", "-q", "-qq", "-vq", "-p serde", "-p log@1", "-p log@", "-p @1", "-p a/b",
+       "--exclude a", "--exclude", "-p", "--level minor", "--level=x", "--rust-version 1.60",
+       "--rust-version x", "--ignore-rust-version", "--offline", "--workspace", "--all", "--bump minor",
+       "--bump x", "--bump", "1.2.3", "0.0.1", "x", "-m b1", "-m +", "--metadata=1.0", "--", "--help",
+       "-h", "--version", "-V", "--nope", "-z", "--check=1", "=", "--update-calls @HERE@/calls",
+       "--manifest-path", "--manifest-path @HERE@/ws", "--manifest-path @HERE@/none/Cargo.toml",
+       "--index-dir @HERE@/ix", "--index-file @HERE@/none", "\u00e9", "-\u00e9", "--exclude=",
+       "--manifest-path=")
 
 
 def choice(rng, long, short, value):
@@ -50,6 +52,8 @@ def upgrade_options(rng, names):
                              ["--compatible", "true"]))
     if rng.random() < 0.2:
         args += ["--never-lower"] if args or rng.random() < 0.3 else ["--never-lower", "-i"]
+    if rng.random() < 0.25:
+        args += choice(rng, "--level", None, rng.choice(tuple(oracle.KEPT)))
     if rng.random() < 0.2:
         args += rng.choice((["--recursive"], ["--recursive", "false"], ["--recursive=true"]))
     if rng.random() < 0.25:
@@ -136,7 +140,8 @@ def check_value(arg, value):
     """Unknown where an option has a value that is none of its own, or names another manifest."""
     bad_version = arg == "--rust-version" and not oracle.rust_numbers(value)
     other_path = arg == "--manifest-path" and value not in MANIFESTS
-    if bad_version or other_path or value == "" or arg in VALUED and value not in VALUED[arg]:
+    no_level = arg == "--level" and value not in oracle.KEPT
+    if bad_version or other_path or no_level or value == "" or arg in VALUED and value not in VALUED[arg]:
         raise oracle.Unknown(f"a value of {arg}")
 
 
@@ -153,6 +158,8 @@ def upgrade_meaning(args):
             add_package(options, value or "")
         elif arg == "--exclude":
             options.excluded.add(value)
+        elif arg == "--level":
+            options.level = value
         elif arg == "--rust-version":
             options.rust_version = oracle.rust_numbers(value)
         elif arg in ("--incompatible", "--pinned", "--compatible"):

@@ -11,7 +11,7 @@ from properties import DRY, general
 # The arguments that say nothing of how a run reports, and are none of help or the version.
 PLAIN = re.compile(
     r"(?!-).*|-[vq]+|-[pm].+|-[pim]|--(metadata-json|index-file|manifest-path|rust-version"
-    r"|ignore-rust-version|compatible|incompatible|pinned|recursive|never-lower|package|exclude|verbose"
+    r"|ignore-rust-version|compatible|incompatible|pinned|recursive|never-lower|level|package|exclude|verbose"
     r"|quiet|bump|metadata|workspace|all)(=.*)?", re.DOTALL)
 
 

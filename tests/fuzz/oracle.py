@@ -9,6 +9,8 @@ import semver
 
 KINDS = ("dependencies", "dev-dependencies", "build-dependencies")
 PINS = {"=", "<", "<=", "*"}
+# the number of numbers that each level keeps
+KEPT = {"patch": 2, "minor": 1, "major": 0}
 
 
 class Unknown(Exception):
@@ -22,6 +24,7 @@ class Options:
     incompatible: bool = False
     pinned: bool = False
     never_lower: bool = False
+    level: str = "major"
     ignore_rust_version: bool = False
     rust_version: tuple | None = None
     packages: dict = field(default_factory=dict)
@@ -181,6 +184,18 @@ def below_floor(comparators, version):
                for one in comparators if one.op not in ("<", "<="))
 
 
+def floor_numbers(comparators):
+    """The numbers of the greatest version that a comparator other than < and <= names; none without one."""
+    named = [(*one.numbers, 0, 0)[:3] for one in comparators if one.op not in ("<", "<=")]
+    return max(named, default=None)
+
+
+def is_within(level, comparators, version):
+    """Whether a version has the numbers of the floor that a level keeps."""
+    floor = floor_numbers(comparators)
+    return floor is None or version.numbers[:KEPT[level]] == floor[:KEPT[level]]
+
+
 def latest_text(options, old, comparators, latest, compatible):
     """The text for the latest version, where it is another one than the compatible one."""
     if latest is None or (compatible and latest.plain() == compatible.plain()):
@@ -215,7 +230,8 @@ def decided(options, entry, offers, rust):
     if comparators is None:
         return entry.old
     own = offers.get(entry.name, []) if entry.registry else []
-    fine = [offer for offer in own if rust is None or offer.rust is None or offer.rust <= rust]
+    fine = [offer for offer in own if (rust is None or offer.rust is None or offer.rust <= rust)
+            and is_within(options.level, comparators, offer.version)]
     latest = greatest(fine, lambda version: "-" in entry.old or not version.pre)
     compatible = greatest(fine, lambda version: semver.admits(comparators, version))
     far = latest_text(options, entry.old, comparators, latest, compatible)

@@ -64,6 +64,11 @@ def never_lower_ignored(run):
 
 
 @fault
+def level_ignored(run):
+    run.go(without(run.args, "--level"))
+
+
+@fault
 def exclude_ignored(run):
     run.go(without(run.args, "--exclude"))
 

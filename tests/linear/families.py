@@ -133,6 +133,10 @@ def rows():
                  lambda n: single(entries(n), lines(n), ["--message-format", "json"]))
     yield Family("entries that are raised, as a Markdown table", 10000,
                  lambda n: single(entries(n), lines(n), ["--message-format", "markdown"]))
+    yield Family("entries that are raised, as annotations", 10000,
+                 lambda n: single(entries(n), lines(n), ["--message-format", "github"]))
+    yield Family("members with an annotation", 2000, lambda n: members(
+        [entries(1)] * n, ["upgrade", "--message-format", "github"], lines(1)))
     yield Family("members of one row of a Markdown table", 2000, lambda n: members(
         [entries(1)] * n, ["upgrade", "--message-format", "markdown"], lines(1)))
     yield Family("warnings of unreadable requirements", 10000,

@@ -60,6 +60,44 @@ row_statuses() {
   run 0 upgrade -n --offline
   shown
 }
+# With --min-age requirements are raised only to versions of that age, by the clock of this run: not to one that is
+# published later, and not to one of unknown time. The cache gets whole entries.
+row_min_age() {
+  sed -i '/"1.2.3"/s/}$/, "pubtime": "2020-01-01T00:00:00Z"}/' "$room/served/one/3/d/dep"
+  sed -i '/"0.2.5"/s/}$/, "pubtime": "2999-01-01T00:00:00Z"}/' "$room/served/one/ot/he/other"
+  run 0 upgrade --min-age 14
+  has Cargo.toml 'dep = "1.2"'
+  has Cargo.toml 'other = "0.2.0"'
+  whole
+  run 0 upgrade -n --offline
+  grep -q -E '^other +0\.2\.0 .* 0\.2\.5 ' "$room/out" || fail 'without --min-age the table has no other'
+}
+# An age that is no number of days is a usage error.
+row_min_age_of_a_word() {
+  run 2 upgrade --min-age week
+  says "invalid value 'week' for '--min-age <DAYS>'"
+  unwritten
+}
+# With --level patch requirements are raised only where the major and the minor number stay.
+row_level() {
+  run 0 upgrade --level patch
+  has Cargo.toml 'dep = "1.0"'
+  has Cargo.toml 'other = "0.2.5"'
+  run 0 upgrade --level minor
+  raised
+}
+# The reports for reviewers.
+row_markdown() {
+  run 0 upgrade -n --message-format markdown
+  grep -q -F '| dep | 1\.0 | 1\.2 | compatible |' "$room/out" || fail 'the table has no dep'
+  unwritten
+}
+row_github() {
+  run 0 upgrade -n --message-format github
+  grep -q -F '::notice file=Cargo.toml,line=7,title=cargo upgrade::dep: 1.0 -> 1.2 (compatible)' "$room/out" ||
+    fail 'no annotation of dep'
+  unwritten
+}
 # One crate that is not there does not hide the others.
 row_one_is_not_there() {
   fill

@@ -151,10 +151,11 @@ ODD = ('[package]\nname = "\\u001b[2J\\u001b]0;t\\u0007\\r\\u007f\\u009b31m\\u20
        '[dependencies]\nserde = "1.0" # \u202e\u009b\n')
 
 
-def terminal(room, arguments):
-    """What a terminal gets on both streams."""
+def terminal(room, arguments, env=None):
+    """What a terminal gets on both streams, in this environment."""
     parent, child = pty.openpty()
-    done = subprocess.Popen([PROGRAM, *arguments], cwd=room.path, stdin=subprocess.DEVNULL, stdout=child, stderr=child)
+    done = subprocess.Popen([PROGRAM, *arguments], cwd=room.path, stdin=subprocess.DEVNULL, stdout=child, stderr=child,
+                            env=env or {})
     os.close(child)
     got = b""
     while True:
@@ -185,6 +186,26 @@ def terminals(top):
     got = terminal(room, [*UPGRADE, "--dry-run", "--message-format", "json"])
     lines = [line for line in got.splitlines() if line.startswith("{")]
     expect("messages on a terminal are JSON", [json.loads(line)["reason"] for line in lines][-1:] == ["upgrade-summary"], ascii(got))
+
+
+def colors(top):
+    """A report on a terminal is colored, unless the arguments or the environment say otherwise; columns are aligned there."""
+    room = Room(top)
+    titles, raised = "name  old req compatible latest new req", "serde 1.0     1.2.3      1.2.3  "
+    got = terminal(room, [*UPGRADE, "-n"], {"TERM": "xterm"})
+    expect("titles on a terminal", f"\n\x1b[1m{titles}\x1b[0m\n" in got, ascii(got))
+    expect("a requirement on a terminal", f"\n{raised}\x1b[32m1.2    \x1b[0m\n" in got, ascii(got))
+    expect("a status on a terminal", got.startswith("\x1b[1;32m    Checking\x1b[0m "), ascii(got))
+    got = terminal(room, [*UPGRADE, "-n", "--color", "auto"], {"TERM": "xterm", "CARGO_TERM_COLOR": "never"})
+    expect("--color auto", f"\x1b[1m{titles}\x1b[0m\n" in got, ascii(got))
+    for args, env in [([], {}), ([], {"TERM": "dumb"}), ([], {"NO_COLOR": "1"}), ([], {"CLICOLOR": "0"}),
+                      ([], {"CARGO_TERM_COLOR": "never", "CLICOLOR_FORCE": "1"}), (["--color", "never"], {}),
+                      (["--message-format", "markdown"], {"NO_COLOR": "1"})]:
+        got = terminal(room, [*UPGRADE, "-n", *args], {"TERM": "xterm", **env} if env or args else env)
+        expect(f"no color: {args} {env}", "\x1b" not in got, ascii(got))
+    room.write("Cargo.toml", '[dependencies]\n"\u6f22\u5b57" = { package = "serde", version = "1.0" }\nserde = "1.0"\n')
+    for shown, spaces in [(terminal(room, [*UPGRADE, "-n"]), 3), (room.run(*UPGRADE, "-n").stdout.decode(), 1)]:
+        expect(f"{spaces} spaces", "\nserde (\u6f22\u5b57)" + " " * spaces + "1.0" in shown, ascii(shown))
 
 
 def writes(top):
@@ -235,7 +256,7 @@ def limits(top):
 def main():
     top = tempfile.mkdtemp()
     try:
-        for part in [outputs, folders, args, terminals, writes, limits]:
+        for part in [outputs, folders, args, terminals, colors, writes, limits]:
             part(top)
     finally:
         shutil.rmtree(os.fsencode(top))

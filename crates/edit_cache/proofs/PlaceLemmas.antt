@@ -11,10 +11,13 @@ use Rattle.edit_version.specs.Admissible.{admissible_in, is_too_new}
 use Rattle.edit_version.specs.Greatest.{IsGreatest}
 use Rattle.edit_version.specs.IndexEntry.{IndexEntry}
 use Rattle.edit_version.specs.Admits.{admits}
+use Rattle.edit_version.specs.Levels.{is_within, versions_within}
 use Rattle.edit_version.specs.Requirement.{requirement_read}
 use Rattle.edit_version.specs.RustVersions.{Numbers}
 use Rattle.edit_version.specs.Selection.{admits_read, is_admitted}
 use Rattle.edit_version.specs.VersionOrder.{full_order}
+use Rattle.edit_version.specs.declared.levels.Level.{Level}
+use Rattle.edit_version.proofs.FilteredGreatests.{greatest-left}
 use Rattle.edit_cache.specs.Choices.{version_at}
 use Rattle.edit_cache.specs.Ranking.{IsRanking}
 use Rattle.edit_cache.specs.Ranks.{Ranking, passes, rank_of}
@@ -75,6 +78,18 @@ greatest-at entries ranks rust test place is g =
     subst (λ (o : Option Parts). IsGreatest test full_order (admissible_in rust entries) o) (sym e)
     (greatest-found entries ranks rust test (find (passes rust test) ranks) g refl)
 
+-- the version of the first rank that passes and is within a level, by its index, is the greatest one that
+-- passes of the admissible ones within the level
+pub greatest-within : (entries : List IndexEntry) (ranks : List Ranking) (rust : Option Numbers)
+    (test : Parts → Bool) (level : Option Level) (text : List ℕ) (place : Option ℕ)
+    → place ≡ position_from (passes rust (λ v. test v && is_within level text v)) 0 ranks
+    → IsRanking entries ranks
+    → IsGreatest test full_order (versions_within level text (admissible_in rust entries))
+    (version_at ranks place)
+greatest-within entries ranks rust test level text place is g =
+    greatest-left test (is_within level text) full_order (admissible_in rust entries) (version_at ranks place)
+    (greatest-at entries ranks rust (λ v. test v && is_within level text v) place is g)
+
 -- the index among ranks is the index among their models
 pub place-ranked : (rust : Option Numbers) (test : Parts → Bool) (ranks : List Rank) (place : Option ℕ)
     → place ≡ position (λ r. passes rust test (rank_of r)) ranks
@@ -87,29 +102,32 @@ and-false : (b : Bool) → (b && false) ≡ false
 and-false true = refl
 and-false false = refl
 
-place-read : (rust : Option Numbers) (ranks : List Ranking) (read : Result (List Held) Error)
-    → None ≡ result_ok read → position_from (passes rust (admits_read read)) 0 ranks ≡ None
-place-read rust ranks (Ok cs) h = cc h
-place-read rust ranks (Err e) h =
-    place-never (passes rust (admits_read (Err e))) (λ r. and-false (not (is_too_new r.rust_version rust))) 0 ranks
+place-read : (rust : Option Numbers) (test : Parts → Bool) (ranks : List Ranking)
+    (read : Result (List Held) Error) → None ≡ result_ok read
+    → position_from (passes rust (λ v. admits_read read v && test v)) 0 ranks ≡ None
+place-read rust test ranks (Ok cs) h = cc h
+place-read rust test ranks (Err e) h =
+    place-never (passes rust (λ v. admits_read (Err e) v && test v))
+    (λ r. and-false (not (is_too_new r.rust_version rust))) 0 ranks
 
 -- a text that is no requirement admits nothing, so that there is no index
-pub place-unread : (rust : Option Numbers) (text : List ℕ) (ranks : List Ranking)
-    → None ≡ requirement_read text → None ≡ position_from (passes rust (is_admitted text)) 0 ranks
-place-unread rust text ranks h = sym (place-read rust ranks (req_of text) h)
+pub place-unread : (rust : Option Numbers) (test : Parts → Bool) (text : List ℕ) (ranks : List Ranking)
+    → None ≡ requirement_read text
+    → None ≡ position_from (passes rust (λ v. is_admitted text v && test v)) 0 ranks
+place-unread rust test text ranks h = sym (place-read rust test ranks (req_of text) h)
 
-place-with : (rust : Option Numbers) (ranks : List Ranking) (place : Option ℕ) (cs : List Held)
-    (read : Result (List Held) Error) → Some cs ≡ result_ok read
-    → place ≡ position_from (passes rust (admits cs)) 0 ranks
-    → place ≡ position_from (passes rust (admits_read read)) 0 ranks
-place-with rust ranks place cs (Ok ds) h e =
+place-with : (rust : Option Numbers) (test : Parts → Bool) (ranks : List Ranking) (place : Option ℕ)
+    (cs : List Held) (read : Result (List Held) Error) → Some cs ≡ result_ok read
+    → place ≡ position_from (passes rust (λ v. admits cs v && test v)) 0 ranks
+    → place ≡ position_from (passes rust (λ v. admits_read read v && test v)) 0 ranks
+place-with rust test ranks place cs (Ok ds) h e =
     let same : cs ≡ ds = cc h in
-    subst (λ (c : List Held). place ≡ position_from (passes rust (admits c)) 0 ranks) same e
-place-with rust ranks place cs (Err e) h is = cc h
+    subst (λ (c : List Held). place ≡ position_from (passes rust (λ v. admits c v && test v)) 0 ranks) same e
+place-with rust test ranks place cs (Err e) h is = cc h
 
 -- a parsed requirement admits the same versions as its text
-pub place-admitted : (rust : Option Numbers) (text : List ℕ) (ranks : List Ranking) (place : Option ℕ)
-    (cs : List Held) → Some cs ≡ requirement_read text
-    → place ≡ position_from (passes rust (admits cs)) 0 ranks
-    → place ≡ position_from (passes rust (is_admitted text)) 0 ranks
-place-admitted rust text ranks place cs h e = place-with rust ranks place cs (req_of text) h e
+pub place-admitted : (rust : Option Numbers) (test : Parts → Bool) (text : List ℕ) (ranks : List Ranking)
+    (place : Option ℕ) (cs : List Held) → Some cs ≡ requirement_read text
+    → place ≡ position_from (passes rust (λ v. admits cs v && test v)) 0 ranks
+    → place ≡ position_from (passes rust (λ v. is_admitted text v && test v)) 0 ranks
+place-admitted rust test text ranks place cs h e = place-with rust test ranks place cs (req_of text) h e

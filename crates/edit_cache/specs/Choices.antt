@@ -1,11 +1,12 @@
 -- The model of the cached choices for requirements on a crate (own).
-use Rattle.std.specs.Prelude.{◌≡◌, ℕ, List, Option, All, IfSome, option_and_then, option_map, slice_get}
+use Rattle.std.specs.Prelude.{◌≡◌, ◌&&◌, ℕ, List, Option, All, IfSome, option_and_then, option_map, slice_get}
 use Rattle.std.specs.BTreeMap.{BTreeMap, get_by_text}
 use Rattle.std.specs.Global.{Vec}
 use Rattle.std.specs.List.{position_from}
 use Rattle.std.proofs.Props.{props}
 use Rattle.semver.specs.Parse.{Parts}
 use Rattle.edit_version.specs.Candidates.{numbers_in}
+use Rattle.edit_version.specs.Levels.{is_within}
 use Rattle.edit_version.specs.Selection.{is_admitted, is_offered}
 use Rattle.edit_cache.specs.Ranks.{Ranking, passes}
 use Rattle.edit_cache.specs.declared.choices.Choice.{Choice}
@@ -13,11 +14,14 @@ use Rattle.std.specs.declared.alloc.Global.{Global}
 use Rattle.std.specs.declared.string.String.{String}
 
 -- the indices of the greatest version that a requirement admits and of the latest version, among the ranks
--- that support a Rust version (own)
+-- that support a Rust version and whose versions are within a level of the requirement (own)
 pub record IsChoice (ranks : List Ranking) (text : List ℕ) (c : Choice) : Type 0 where
   pub compatible : c.compatible
-      ≡ position_from (passes (numbers_in c.rust_version) (is_admitted text)) 0 ranks
-  pub latest : c.latest ≡ position_from (passes (numbers_in c.rust_version) (is_offered text)) 0 ranks
+      ≡ position_from (passes (numbers_in c.rust_version)
+      (λ v. is_admitted text v && is_within c.level text v)) 0 ranks
+  pub latest : c.latest
+      ≡ position_from (passes (numbers_in c.rust_version)
+      (λ v. is_offered text v && is_within c.level text v)) 0 ranks
 
 -- each cached choice is that of its requirement (own)
 abbrev pub AreChoices : List Ranking → BTreeMap (String Global) (Vec Choice) → Type 0

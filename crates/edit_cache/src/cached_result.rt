@@ -6,7 +6,7 @@ ghost use Rattle.edit_cache.specs.CachedAnswer.{FitsAnswer, FitsAnswer-prop, IsR
 use crate::ranking::Ranked;
 use edit_base::errors::CargoResult;
 use edit_sources::index::IndexKrate;
-use edit_version::{Requirement, RustVersion};
+use edit_version::{Level, Requirement, RustVersion};
 use std::alloc::Global;
 
 /// A cached result of an index, with the ranking of its entries once that is made.
@@ -44,12 +44,14 @@ impl CachedAnswer {
         Ok(())
     }
 
-    /// Ranks the entries, unless that is done, and caches the choice for a requirement and a Rust version.
+    /// Ranks the entries, unless that is done, and caches the choice for a requirement, a Rust version and a
+    /// level.
     pub(crate) fn rank_for(
         &mut self,
         alloc: Global,
         old: &Requirement<'_>,
         rust_version: Option<RustVersion>,
+        level: Option<Level>,
     ) -> CargoResult<()>
         ensures answer { self.new.answer ≡ self.old.answer }
         ensures ranked { OnOk result (IsRanked self.new.answer self.new.ranked) }
@@ -57,7 +59,7 @@ impl CachedAnswer {
     {
         self.rank(alloc)?;
         if let Some(ranked) = &mut self.ranked {
-            ranked.cache_choice_for(alloc, old, rust_version)?;
+            ranked.cache_choice_for(alloc, old, rust_version, level)?;
         }
         Ok(())
     }

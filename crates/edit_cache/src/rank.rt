@@ -1,11 +1,12 @@
 //! The rank of an index entry, and searches in a list of ranks.
-ghost use Rattle.std.specs.Prelude.{◌≡◌, ◌++◌, IfOk, IfErr, OnOk, map, option_copied};
+ghost use Rattle.std.specs.Prelude.{◌≡◌, ◌++◌, ◌&&◌, IfOk, IfErr, OnOk, map, option_copied};
 ghost use Rattle.std.specs.List.{find, position, position_from};
 ghost use Rattle.semver.specs.Identifiers.{parts_text};
 ghost use Rattle.edit_base.specs.Errors.{IsMemory};
 ghost use Rattle.edit_record.specs.Records.{IsRegistryDependency};
 ghost use Rattle.edit_version.specs.Candidates.{numbers_in, wants};
 ghost use Rattle.edit_version.specs.IndexEntry.{entry_of};
+ghost use Rattle.edit_version.specs.Levels.{is_in_bound};
 ghost use Rattle.edit_version.specs.ReadRequirement.{text_in};
 ghost use Rattle.edit_version.specs.Selection.{is_admitted, is_offered};
 ghost use Rattle.edit_cache.specs.Choices.{IsChoice};
@@ -19,7 +20,7 @@ use edit_record::find::dependency_on;
 use edit_version::candidates::{is_for, is_selectable, read_candidate};
 use edit_version::fetch::IndexVersion;
 use edit_version::rust_version::RustVersion;
-use edit_version::{Requirement, allows_prerelease};
+use edit_version::{Bound, Level, Requirement, allows_prerelease};
 use semver::{Version, VersionReq};
 use std::alloc::Global;
 use std::cmp::Reverse;
@@ -117,59 +118,90 @@ fn is_matching_rank(
     is_for(rank.rust_version, rust_version) && is_selectable(&rank.version.0, allow_prerelease, req)
 }
 
-/// The index of the first rank that supports a Rust version and whose version matches.
+/// Whether a rank supports a Rust version, and its version matches and is within a bound.
+fn is_bounded_match(
+    rank: &Rank,
+    allow_prerelease: bool,
+    req: Option<&VersionReq>,
+    rust_version: Option<RustVersion>,
+    bound: Bound<'_>,
+) -> bool
+    ensures { result
+        ≡ passes (numbers_in rust_version)
+        (λ v. wants allow_prerelease req.entry v && is_in_bound bound.entry v) (rank_of rank.now) }
+{
+    let version = &rank.version.0;
+    is_for(rank.rust_version, rust_version)
+        && (is_selectable(version, allow_prerelease, req) && bound.contains(version))
+}
+
+/// The index of the first rank that supports a Rust version and whose version matches and is within a bound.
 fn first_place(
     ranks: &[Rank],
     allow_prerelease: bool,
     req: Option<&VersionReq>,
     rust_version: Option<RustVersion>,
+    bound: Bound<'_>,
 ) -> Option<usize>
-    ensures { result ≡ position (λ r. passes (numbers_in rust_version) (wants allow_prerelease req.entry)
-        (rank_of r)) ranks.now }
+    ensures { result ≡ position (λ r. passes (numbers_in rust_version)
+        (λ v. wants allow_prerelease req.entry v && is_in_bound bound.entry v) (rank_of r)) ranks.now }
 {
-    ranks.iter().position(|rank| is_matching_rank(rank, allow_prerelease, req, rust_version))
+    ranks.iter().position(|rank| is_bounded_match(rank, allow_prerelease, req, rust_version, bound))
 }
 
-/// The index of the first rank that supports a Rust version and that a requirement admits.
+/// The index of the first rank that supports a Rust version, that a requirement admits, and that is within a
+/// bound.
 fn compatible_place(
     ranks: &[Rank],
     old: &Requirement<'_>,
     rust_version: Option<RustVersion>,
+    bound: Bound<'_>,
 ) -> Option<usize>
-    ensures { result ≡ position_from (passes (numbers_in rust_version) (is_admitted (text_in old.now))) 0
-        (map rank_of ranks.now) }
+    ensures { result ≡ position_from (passes (numbers_in rust_version)
+        (λ v. is_admitted (text_in old.now) v && is_in_bound bound.entry v)) 0 (map rank_of ranks.now) }
 {
     match old.version_req() {
-        Some(req) => first_place(ranks, false, Some(req), rust_version),
+        Some(req) => first_place(ranks, false, Some(req), rust_version, bound),
         None => None,
     }
 }
 
-/// The index of the latest version for a requirement: the first rank that supports a Rust version,
-/// pre-releases included only where the requirement allows them.
+/// The index of the latest version for a requirement: the first rank that supports a Rust version and is
+/// within a bound, pre-releases included only where the requirement allows them.
 fn latest_place(
     ranks: &[Rank],
     old: &Requirement<'_>,
     rust_version: Option<RustVersion>,
+    bound: Bound<'_>,
 ) -> Option<usize>
-    ensures { result ≡ position_from (passes (numbers_in rust_version) (is_offered (text_in old.now))) 0
-        (map rank_of ranks.now) }
+    ensures { result ≡ position_from (passes (numbers_in rust_version)
+        (λ v. is_offered (text_in old.now) v && is_in_bound bound.entry v)) 0 (map rank_of ranks.now) }
 {
-    first_place(ranks, allows_prerelease(old.text()), None, rust_version)
+    first_place(
+        ranks,
+        allows_prerelease(old.text()),
+        None,
+        rust_version,
+        bound,
+    )
 }
 
-/// Finds the choice for a requirement and a Rust version.
+/// Finds the choice for a requirement, a Rust version and a level.
 pub(crate) fn choose(
     ranks: &[Rank],
     old: &Requirement<'_>,
     rust_version: Option<RustVersion>,
+    level: Option<Level>,
 ) -> Choice
     ensures requested { result.rust_version ≡ rust_version }
+    ensures level { result.level ≡ level }
     ensures is { IsChoice (map rank_of ranks.now) (text_in old.now) result }
 {
+    let bound = Bound::new(level, old);
     Choice {
         rust_version,
-        compatible: compatible_place(ranks, old, rust_version),
-        latest: latest_place(ranks, old, rust_version),
+        level,
+        compatible: compatible_place(ranks, old, rust_version, bound),
+        latest: latest_place(ranks, old, rust_version, bound),
     }
 }

@@ -8,6 +8,7 @@ ghost use Rattle.edit_version.specs.Candidates.{numbers_in, parts_in, wants};
 ghost use Rattle.edit_version.specs.Greatest.{IsGreatest, IsGreatestItem};
 ghost use Rattle.edit_version.specs.IndexEntry.{IndexEntry, entry_of};
 ghost use Rattle.edit_version.specs.Laws.{holds_dash};
+ghost use Rattle.edit_version.specs.Levels.{versions_within};
 ghost use Rattle.edit_version.specs.ReadRequirement.{text_in};
 ghost use Rattle.edit_version.specs.Requirement.{comparators_of};
 ghost use Rattle.edit_version.specs.Selection.{is_admitted, is_allowed, is_offered};
@@ -20,9 +21,9 @@ use crate::choices::{Choice, Choices, cache_choice, known_choice};
 use crate::rank::{Rank, choose, dependency_of, first_wanted, read_ranks};
 use edit_base::errors::CargoResult;
 use edit_record::dependency::Dependency;
-use edit_version::Requirement;
 use edit_version::fetch::IndexVersion;
 use edit_version::rust_version::RustVersion;
+use edit_version::{Level, Requirement};
 use semver::{Version, VersionReq};
 use std::alloc::{AllocError, Global};
 use std::collections::BTreeMap;
@@ -82,54 +83,65 @@ impl Ranked {
         }
     }
 
-    /// The choice for a requirement and a Rust version: the cached one, or else a new search.
-    fn choice(&self, old: &Requirement<'_>, rust_version: Option<RustVersion>) -> Choice
+    /// The choice for a requirement, a Rust version and a level: the cached one, or else a new search.
+    fn choice(
+        &self,
+        old: &Requirement<'_>,
+        rust_version: Option<RustVersion>,
+        level: Option<Level>,
+    ) -> Choice
         ensures requested { result.rust_version ≡ rust_version }
+        ensures level { result.level ≡ level }
         ensures is { IsChoice (ranks_of self.now) (text_in old.now) result }
     {
-        match known_choice(&self.choices, old.text(), rust_version) {
+        match known_choice(&self.choices, old.text(), rust_version, level) {
             Some(choice) => choice,
-            None => choose(&self.ranks, old, rust_version),
+            None => choose(&self.ranks, old, rust_version, level),
         }
     }
 
-    /// The greatest version that a requirement admits and the latest version, of those that may be chosen.
+    /// The greatest version that a requirement admits and the latest version, of those that may be chosen
+    /// and are within a level of the requirement.
     pub fn version_pair(
         &self,
         old: &Requirement<'_>,
         rust_version: Option<RustVersion>,
+        level: Option<Level>,
     ) -> VersionPair<'_>
         ensures compatible { OfEntries self.now (λ entries.
             IsGreatest (is_admitted (text_in old.now)) full_order
-            (admissible_in (numbers_in rust_version) entries) (parts_in result.compatible)) }
+            (versions_within level (text_in old.now) (admissible_in (numbers_in rust_version) entries))
+            (parts_in result.compatible)) }
         ensures latest { OfEntries self.now (λ entries.
             IsGreatest (is_offered (text_in old.now)) full_order
-            (admissible_in (numbers_in rust_version) entries) (parts_in result.latest)) }
+            (versions_within level (text_in old.now) (admissible_in (numbers_in rust_version) entries))
+            (parts_in result.latest)) }
     {
-        let choice = self.choice(old, rust_version);
+        let choice = self.choice(old, rust_version, level);
         VersionPair {
             compatible: self.version_at(choice.compatible),
             latest: self.version_at(choice.latest),
         }
     }
 
-    /// Caches the choice for a requirement and a Rust version, so that `version_pair` need not search again.
-    /// Nothing is cached for up to `FEW` ranks.
+    /// Caches the choice for a requirement, a Rust version and a level, so that `version_pair` need not
+    /// search again. Nothing is cached for up to `FEW` ranks.
     pub(crate) fn cache_choice_for(
         &mut self,
         alloc: Global,
         old: &Requirement<'_>,
         rust_version: Option<RustVersion>,
+        level: Option<Level>,
     ) -> Result<(), AllocError>
         ensures { self.new.ranks ≡ self.old.ranks }
     {
         if self.ranks.len() <= FEW {
             return Ok(());
         }
-        if known_choice(&self.choices, old.text(), rust_version).is_some() {
+        if known_choice(&self.choices, old.text(), rust_version, level).is_some() {
             return Ok(());
         }
-        let choice = choose(&self.ranks, old, rust_version);
+        let choice = choose(&self.ranks, old, rust_version, level);
         cache_choice(alloc, &mut self.choices, old.text(), choice)
     }
 

@@ -6,7 +6,7 @@ ghost use Rattle.edit_cache.specs.RegistryAnswers.{has_last, last_result, rankin
 
 use crate::cached_result::CachedAnswer;
 use edit_base::errors::CargoResult;
-use edit_version::{Requirement, RustVersion};
+use edit_version::{Level, Requirement, RustVersion};
 use std::alloc::{AllocError, Global};
 use std::collections::BTreeMap;
 
@@ -147,13 +147,14 @@ impl RegistryAnswers {
         }
     }
 
-    /// Ranks the result that was added last, once, and caches the choice for a requirement and a Rust
-    /// version.
+    /// Ranks the result that was added last, once, and caches the choice for a requirement, a Rust version
+    /// and a level.
     fn rank_last_for(
         &mut self,
         alloc: Global,
         old: &Requirement<'_>,
         rust_version: Option<RustVersion>,
+        level: Option<Level>,
     ) -> CargoResult<()>
         ensures map { self.new.others ≡ self.old.others }
         ensures same { last_result self.new.last ≡ last_result self.old.last }
@@ -162,18 +163,20 @@ impl RegistryAnswers {
         ensures error { IfErr result IsMemory }
     {
         match &mut self.last {
-            Some(last) => last.cached.rank_for(alloc, old, rust_version),
+            Some(last) => last.cached.rank_for(alloc, old, rust_version, level),
             None => Ok(()),
         }
     }
 
-    /// Ranks the result for a crate, once, and caches the choice for a requirement and a Rust version.
+    /// Ranks the result for a crate, once, and caches the choice for a requirement, a Rust version and a
+    /// level.
     pub(crate) fn rank_for(
         &mut self,
         alloc: Global,
         name: &str,
         old: &Requirement<'_>,
         rust_version: Option<RustVersion>,
+        level: Option<Level>,
     ) -> CargoResult<()>
         ensures preserved { (other : List ℕ) → result_of self.new other ≡ result_of self.old other }
         ensures ranked { OnOk result
@@ -181,10 +184,10 @@ impl RegistryAnswers {
         ensures error { IfErr result IsMemory }
     {
         if self.has_last(name) {
-            return self.rank_last_for(alloc, old, rust_version);
+            return self.rank_last_for(alloc, old, rust_version, level);
         }
         match self.others.get_mut(name) {
-            Some(cached) => cached.rank_for(alloc, old, rust_version),
+            Some(cached) => cached.rank_for(alloc, old, rust_version, level),
             None => Ok(()),
         }
     }

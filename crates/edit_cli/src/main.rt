@@ -2,6 +2,7 @@
 #![tactic(auto)]
 
 mod checks;
+mod color;
 mod fetch_arguments;
 mod fetch_plan;
 mod fetch_store;
@@ -26,12 +27,18 @@ use shell_options::shell_options;
 use std::io::{ErrorKind, Write};
 use std::process::ExitCode;
 use std::{env, process};
-use streams::{errors, output};
+use streams::{ReportOptions, errors, output, report_errors, report_output};
 
 /// The folders of a run that needs no file.
 const NO_FOLDERS: Folders<'static> = Folders {
     current: "/",
     home: None,
+};
+
+/// The options of a report that were not parsed.
+const NO_OPTIONS: ReportOptions<'static> = ReportOptions {
+    format: None,
+    color: None,
 };
 
 /// The message where there is no current folder.
@@ -104,7 +111,7 @@ fn start(rt: &HostRuntime) -> CargoResult<u8> {
     let command = command(rt.alloc())?;
     let matches = match command.try_get_matches_from(filled.as_slice()) {
         Ok(matches) => matches,
-        Err(_) => return run_at(rt, args, NO_FOLDERS, true),
+        Err(_) => return run_at(rt, args, NO_FOLDERS, NO_OPTIONS),
     };
     start_in(rt, args, matches.subcommand())
 }
@@ -169,8 +176,11 @@ fn run_checked(
             return print_usage_error(rt, fault.as_str());
         }
     }
-    let is_for_people = matches.get_str("message-format") != Some("json");
-    run_at(rt, args, folders, is_for_people)
+    let options = ReportOptions {
+        format: matches.get_str("message-format"),
+        color: matches.get_str("color"),
+    };
+    run_at(rt, args, folders, options)
 }
 
 /// Runs a subcommand that needs no file. The first argument is its name.
@@ -183,7 +193,7 @@ fn run_fileless(rt: &HostRuntime, args: &[&str]) -> CargoResult<u8> {
         "check-curl" => Ok(check_curl(arguments, &mut err)),
         "plan" => plan::plan(rt, arguments, &mut err),
         _ => {
-            let mut out = output(rt, false)?;
+            let mut out = output(rt)?;
             Ok(shell_options(rt.alloc(), arguments, &mut out, &mut err))
         }
     }
@@ -211,21 +221,21 @@ fn next_call_at<E: Write>(
     err: &mut E,
 ) -> CargoResult<u8> {
     let mut files = HostStore::new(rt.clone()?);
-    let mut out = output(rt, false)?;
+    let mut out = output(rt)?;
     Ok(next_call(rt.alloc(), arguments, current, &mut files, &mut out, err))
 }
 
-/// Runs a subcommand of `edit_program`. Its standard output is for people, or else for programs.
+/// Runs a subcommand of `edit_program`, with streams for a report with these options.
 fn run_at(
     rt: &HostRuntime,
     args: &[&str],
     folders: Folders<'_>,
-    is_for_people: bool,
+    options: ReportOptions<'_>,
 ) -> CargoResult<u8> {
     let mut files = HostStore::for_process(rt.clone()?, process::id(rt.process()));
     let index_files = HostStore::new(rt.clone()?);
-    let mut out = output(rt, is_for_people)?;
-    let mut err = errors(rt)?;
+    let mut out = report_output(rt, options)?;
+    let mut err = report_errors(rt, options)?;
     let status = run(
         rt.alloc(),
         args,

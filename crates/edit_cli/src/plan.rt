@@ -30,7 +30,7 @@ fn read_request(rt: &HostRuntime) -> CargoResult<Vec<u8>> {
 /// Runs `plan` with these arguments, and returns the exit status: 0 where the request was carried out, 1 for
 /// an error of the plan, and 2 for a malformed request or wrong options.
 pub(crate) fn plan<E: Write>(rt: &HostRuntime, arguments: &[&str], err: &mut E) -> CargoResult<u8> {
-    let mut out = output(rt, false)?;
+    let mut out = output(rt)?;
     match arguments.first().copied() {
         Some("-h" | "--help") => {
             let _ = out.write_all(HELP.as_bytes());

@@ -54,6 +54,21 @@ fn flag_text(is_given: bool, flag: &'static str) -> &'static str {
     if is_given { flag } else { "" }
 }
 
+/// Whether an age is given, and no time from which it counts back.
+fn needs_now(matches: &ArgMatches<'_>) -> bool {
+    matches.get_str("min-age").is_some() && matches.get_str("now").is_none()
+}
+
+/// The value of `--color` as cargo takes it; empty where it is not given, or has another value.
+fn color_text(color: Option<&str>) -> &'static str {
+    match color {
+        Some("auto") => "auto",
+        Some("always") => "always",
+        Some("never") => "never",
+        _ => "",
+    }
+}
+
 /// Appends the assignments of parsed arguments.
 fn push_options(text: &mut Vec<u8>, matches: &ArgMatches<'_>) -> Result<(), AllocError> {
     let dry = matches.get_flag("dry-run") || matches.get_flag("check");
@@ -74,7 +89,9 @@ fn push_options(text: &mut Vec<u8>, matches: &ArgMatches<'_>) -> Result<(), Allo
         "offline",
         flag_text(matches.get_flag("offline"), "--offline"),
     )?;
-    push_assignment(text, "dry", flag_text(dry, "yes"))
+    push_assignment(text, "dry", flag_text(dry, "yes"))?;
+    push_assignment(text, "age", flag_text(needs_now(matches), "yes"))?;
+    push_assignment(text, "color", color_text(matches.get_str("color")))
 }
 
 /// The arguments of a subcommand, with metadata in place of those that the script adds.

@@ -1,38 +1,92 @@
 //! Standard output and standard error of the program.
 
+use crate::color::is_colored;
 use crate::machine::machine_error;
 use edit_base::CargoResult;
-use edit_terminal::TerminalWriter;
+use edit_terminal::{ReportWriter, TerminalWriter};
 use either::Either;
 use std::alloc::Global;
 use std::io::{IsTerminal, LineWriter, Stderr, Stdout, Write};
 
-/// A line-buffered stream; for a terminal, characters that it would interpret are escaped.
+/// A line-buffered stream of messages; for a terminal, characters that it would interpret are escaped.
 pub(crate) type Stream<W> = Either<TerminalWriter<LineWriter<W>>, LineWriter<W>>;
+
+/// A line-buffered stream of a report; for a terminal, characters that it would interpret are escaped, columns
+/// are aligned, and parts are colored where that is wanted.
+pub(crate) type ReportStream<W> = Either<ReportWriter<LineWriter<W>>, LineWriter<W>>;
+
+/// The values of the options that say how a report is printed, where they are given.
+#[derive(Clone, Copy)]
+pub(crate) struct ReportOptions<'a> {
+    pub(crate) format: Option<&'a str>,
+    pub(crate) color: Option<&'a str>,
+}
 
 /// The size in bytes of the line buffer: a longer line is written in parts.
 const LINE: usize = 8192;
 
-/// A stream over a writer; its text is escaped where it is shown on a terminal.
-fn stream<W: Write + Drop>(alloc: Global, to: W, is_shown: bool) -> CargoResult<Stream<W>> {
-    let lines = LineWriter::with_capacity(alloc, LINE, to).map_err(machine_error)?;
-    if is_shown {
-        Ok(Either::Left(TerminalWriter::new(alloc, lines)))
-    } else {
-        Ok(Either::Right(lines))
-    }
+/// A line-buffered stream over a writer.
+fn line_stream<W: Write + Drop>(alloc: Global, to: W) -> CargoResult<LineWriter<W>> {
+    LineWriter::with_capacity(alloc, LINE, to).map_err(machine_error)
 }
 
-/// Standard output. Output for programs, such as JSON messages, is not escaped for a terminal.
-pub(crate) fn output(rt: &HostRuntime, is_for_people: bool) -> CargoResult<Stream<Stdout>> {
-    let to = rt.stdout();
-    let is_shown = is_for_people && to.is_terminal();
-    stream(rt.alloc(), to, is_shown)
+/// Standard output for programs, which is not escaped for a terminal.
+pub(crate) fn output(rt: &HostRuntime) -> CargoResult<LineWriter<Stdout>> {
+    line_stream(rt.alloc(), rt.stdout())
 }
 
 /// Standard error.
 pub(crate) fn errors(rt: &HostRuntime) -> CargoResult<Stream<Stderr>> {
     let to = rt.stderr();
-    let is_shown = to.is_terminal();
-    stream(rt.alloc(), to, is_shown)
+    let is_terminal = to.is_terminal();
+    let lines = line_stream(rt.alloc(), to)?;
+    if is_terminal {
+        Ok(Either::Left(TerminalWriter::new(rt.alloc(), lines)))
+    } else {
+        Ok(Either::Right(lines))
+    }
+}
+
+/// A stream of a report over a writer, with colors where they are wanted.
+fn report_stream<W: Write + Drop>(
+    alloc: Global,
+    to: W,
+    is_terminal: bool,
+    wanted: bool,
+) -> CargoResult<ReportStream<W>> {
+    let lines = line_stream(alloc, to)?;
+    if is_terminal || wanted {
+        Ok(Either::Left(ReportWriter::new(alloc, lines, wanted)))
+    } else {
+        Ok(Either::Right(lines))
+    }
+}
+
+/// Standard output of a report: JSON messages are neither escaped nor colored, and other formats than tables
+/// are not colored.
+pub(crate) fn report_output(
+    rt: &HostRuntime,
+    options: ReportOptions<'_>,
+) -> CargoResult<ReportStream<Stdout>> {
+    let to = rt.stdout();
+    let is_terminal = to.is_terminal();
+    match options.format {
+        Some("json") => report_stream(rt.alloc(), to, false, false),
+        Some("markdown" | "github") => report_stream(rt.alloc(), to, is_terminal, false),
+        _ => {
+            let wanted = is_colored(rt, options.color, is_terminal)?;
+            report_stream(rt.alloc(), to, is_terminal, wanted)
+        }
+    }
+}
+
+/// Standard error of a report.
+pub(crate) fn report_errors(
+    rt: &HostRuntime,
+    options: ReportOptions<'_>,
+) -> CargoResult<ReportStream<Stderr>> {
+    let to = rt.stderr();
+    let is_terminal = to.is_terminal();
+    let wanted = is_colored(rt, options.color, is_terminal)?;
+    report_stream(rt.alloc(), to, is_terminal, wanted)
 }

@@ -1,4 +1,5 @@
 pub mod AddresslessLemmas
+pub mod AddresslessOrder
 pub mod NameLemmas
 pub mod PlanLemmas
 pub mod ReadLemmas

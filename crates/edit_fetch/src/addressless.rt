@@ -1,8 +1,8 @@
 //! Sources of configuration files without a URL, as those of vendored projects.
-ghost use Rattle.std.specs.Prelude.{◌≡◌, ◌++◌, All, IfOk, OnOk, find, option_map, string_bytes};
-ghost use Rattle.std.specs.List.{flat_map};
+ghost use Rattle.std.specs.Prelude.{◌≡◌, ◌++◌, ◌&&◌, IfOk, OnOk, find, map, not, option_map, string_bytes};
+ghost use Rattle.std.specs.List.{flat_map, list_any};
 ghost use Rattle.std.specs.Str.{bytes_eq};
-ghost use Rattle.edit_fetch.specs.Addressless.{IsAddressless, is_empty_definition, is_empty_source, is_own_key, source_line, placeholder_address, placeholder_line};
+ghost use Rattle.edit_fetch.specs.Addressless.{addressless_sources, is_addressless, is_empty_definition, is_empty_source, is_own_key, place_of, placeholder_address, placeholder_line, source_line};
 ghost use Rattle.edit_sources.specs.Configured.{all_definitions, configuration, source_view};
 ghost use Rattle.edit_sources.specs.SourceReplacement.{definitions_of, first};
 
@@ -82,8 +82,18 @@ fn is_own_key(key: &str) -> bool
 }
 
 /// Whether a list of sources has this key.
-fn is_listed(sources: &[AddresslessSource<'_>], key: &str) -> bool {
+fn is_listed(sources: &[AddresslessSource<'_>], key: &str) -> bool
+    ensures { result ≡ list_any (λ s. bytes_eq s.key.now key.now) sources.now }
+{
     sources.iter().any(|source| source.key == key)
+}
+
+/// Whether the source of a key has no URL in these files and is not in a list of sources.
+fn is_unlisted(configs: &[Config], sources: &[AddresslessSource<'_>], key: &str) -> bool
+    ensures { result ≡ (is_addressless configs.now key.now
+        && not (list_any (λ s. bytes_eq s.key.now key.now) sources.now)) }
+{
+    is_own_key(key) && is_empty(configs, key) && !is_listed(sources, key)
 }
 
 /// The sources without a URL, each once and in the order of these files: the keys of `source`, other than
@@ -92,13 +102,13 @@ pub fn addressless_sources<'a>(
     alloc: Global,
     configs: &'a [Config],
 ) -> Result<Vec<AddresslessSource<'a>>, AllocError>
-    ensures { IfOk result (λ v. All (λ s. IsAddressless configs.entry.now s.key.now) v.items) }
+    ensures { IfOk result (λ v. map place_of v.items ≡ addressless_sources configs.entry.now) }
 {
     let mut found: Vec<AddresslessSource<'a>> = Vec::new(alloc);
     for config in configs {
         for (key, _) in &config.sources {
             let key = key.as_str();
-            if is_own_key(key) && is_empty(configs, key) && !is_listed(&found, key) {
+            if is_unlisted(configs, &found, key) {
                 let file = config.path.as_str();
                 found.push(AddresslessSource { key, file })?;
             }

@@ -1,10 +1,12 @@
 -- The values of an option in parsed arguments.
-use Rattle.std.proofs.Common.{◌≡◌, ℕ, List, Option, Some, None, Result, Ok, Err, Bor, ap, map, refl, subst, ◌∙◌, sym}
-use Rattle.std.specs.Prelude.{[], IfErr, IsErrAnd, is_some, option_map, unwrap_or}
+use Rattle.std.proofs.Common.{◌≡◌, ℕ, Bool, List, Option, Some, None, Result, Ok, Err, Bor, ap, codes, false, map, refl, subst, true, ◌∙◌, sym}
+use Rattle.std.specs.Prelude.{[], IfErr, IsErrAnd, if◌then◌else◌, is_some, option_map, unwrap_or}
+use Rattle.std.specs.Option.{option_map_or}
 use Rattle.clap.specs.Words.{Text, first_value, first_of, found_of, matched_of, raw_values, rows_of}
 use Rattle.clap.specs.declared.parser.ArgMatches.{ArgMatches}
 use Rattle.clap.proofs.WalkLemmas.{first_value-rows, raw_values-rows}
 use Rattle.edit_program.specs.ParsedOptions.{value_of, values_of}
+use Rattle.edit_program.specs.Presented.{has_color, is_color}
 
 or_other : (o : Option (Bor (List ℕ))) (d : Bor (List ℕ))
     → (unwrap_or o d).now ≡ unwrap_or (option_map (λ (s : Bor (List ℕ)). s.now) o) d.now
@@ -89,3 +91,36 @@ pub err_same : {T E : Type 0} (r : Result T E) (e : E) (P : E → Type 0)
     → IsErrAnd r (λ other. other ≡ e) → P e → IfErr r P
 err_same (Ok x) e P same h = tt
 err_same (Err other) e P same h = subst P (sym same) h
+
+-- a fact that each error has
+pub err_always : {T E : Type 0} (r : Result T E) {P : Type 0} → P → IfErr r (λ _. P)
+err_always (Ok x) h = tt
+err_always (Err e) h = h
+
+-- ---- when reports are colored
+
+-- the value of `--color`, where it is given
+pub color_is : (m : ArgMatches) (o : Option (Bor (List ℕ))) (color : Bor (List ℕ)) → o ≡ Some color
+    → option_map (λ (s : Bor (List ℕ)). s.now) o ≡ first_value (found_of m) (codes "color")
+    → has_color (rows_of (found_of m)) ≡ is_color color.now
+color_is m o color is found =
+    ap (λ (x : Option Text). option_map_or is_color x true)
+    (sym (ap (option_map (λ (s : Bor (List ℕ)). s.now)) (sym is) ∙ found
+    ∙ first_value-rows (found_of m) (codes "color")))
+
+-- where it is not given
+pub no_color : (m : ArgMatches) (o : Option (Bor (List ℕ))) → o ≡ None
+    → option_map (λ (s : Bor (List ℕ)). s.now) o ≡ first_value (found_of m) (codes "color")
+    → has_color (rows_of (found_of m)) ≡ true
+no_color m o is found =
+    ap (λ (x : Option Text). option_map_or is_color x true)
+    (sym (ap (option_map (λ (s : Bor (List ℕ)). s.now)) (sym is) ∙ found
+    ∙ first_value-rows (found_of m) (codes "color")))
+
+-- a choice whose test holds
+pub same_if : {A : Type 0} (b : Bool) (o : Option A) → b ≡ true → (if b then o else None) ≡ o
+same_if b o is = ap (λ x. if x then o else None) is
+
+-- and one whose test does not
+pub none_unless : {A : Type 0} (b : Bool) (o : Option A) → b ≡ false → (if b then o else None) ≡ None
+none_unless b o is = ap (λ x. if x then o else None) is

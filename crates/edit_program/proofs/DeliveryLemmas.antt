@@ -122,7 +122,7 @@ pub printed_to : (Leaves : List Output → List Output → StoreView → StoreVi
     (d : Delivery) (old new : StoreView) (calls : List Call) (outputs made file : List Output)
     → calls ≡ d.calls
     → HasFields (tables d.presentation.format d.options.verbosity d.plan.rows.items (length d.inputs)
-    ++ (messages_as d.presentation.format d.plan d.inputs d.options calls
+    ++ (messages_as d.presentation.format d.plan d.inputs d.current d.options calls
     ++ diffs_if d.presentation.diff d.current d.inputs d.plan.outputs.items))
     → (d.options.locked ≡ true → d.plan.outputs.items ≡ [])
     → outputs ≡ upgrade_outputs_to_write d.options d.plan.outputs.items → file ≡ made
@@ -130,7 +130,7 @@ pub printed_to : (Leaves : List Output → List Output → StoreView → StoreVi
     → Leaves outputs file old new → IsWrittenAfterPrint Leaves HasFields d old new
 printed_to Leaves HasFields d old new calls outputs made file of shows unlocked is same are leaves = record {
   shows = subst (λ cs. HasFields (tables d.presentation.format d.options.verbosity d.plan.rows.items (length d.inputs)
-      ++ (messages_as d.presentation.format d.plan d.inputs d.options cs
+      ++ (messages_as d.presentation.format d.plan d.inputs d.current d.options cs
       ++ diffs_if d.presentation.diff d.current d.inputs d.plan.outputs.items))) of shows;
   unlocked = unlocked;
   calls = file;

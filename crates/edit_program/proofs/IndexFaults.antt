@@ -1,5 +1,5 @@
 -- A plan over an index and over the store below it: device errors, and the model of the index.
-use Rattle.std.proofs.Common.{List, None, Option, Result, arith, inl, inr, refl, subst, sym, ℕ, ◌≡◌}
+use Rattle.std.proofs.Common.{List, Option, Result, arith, inl, inr, refl, subst, sym, ℕ, ◌≡◌}
 use Rattle.std.proofs.lemmas.Result.{IfErr-weaker}
 use Rattle.std.specs.Prelude.{IfErr, String, string_bytes}
 use Rattle.std.specs.declared.alloc.Global.{Global}
@@ -78,23 +78,26 @@ pub lines_fault : {T V : Type 0} (files : T → StoreView) (index : FileIndex) (
 lines_fault files index store r counts =
     IfErr-weaker r _ _ (λ e h device. absurd (none_raised (h device).1)) counts
 
--- what holds over an index in files without a bound holds over the index of the source that names it
-pub over_files : {T : Type 0} (files : T → StoreView) (index : LocalIndex T) (store : T) (named : IndexSource)
-    (P : IndexView → Type 0) → named ≡ source.Files → store_of index ≡ store → bound_of index ≡ None
-    → P (local_view (files_of files index)) → P (index_view named (files store))
-over_files {T} files index store named P at is unbound h =
-    subst (λ (i : IndexSource). P (index_view i (files store))) (sym at)
-    (subst (λ (s : T). P (local_view (files s))) is
-    (subst (λ (b : Option PublishedBefore). P (local_view (published_view b (files (store_of index))))) unbound h))
+-- what holds over an index in files with a bound holds over the index of the source that names it
+pub over_files : {T : Type 0} (files : T → StoreView) (index : LocalIndex T) (store : T)
+    (bound : Option PublishedBefore) (named : IndexSource) (P : IndexView → Type 0)
+    → named ≡ source.Files → store_of index ≡ store → bound_of index ≡ bound
+    → P (local_view (files_of files index)) → P (index_view bound named (files store))
+over_files {T} files index store bound named P at is bounded h =
+    subst (λ (i : IndexSource). P (index_view bound i (files store))) (sym at)
+    (subst (λ (s : T). P (local_view (published_view bound (files s)))) is
+    (subst (λ (b : Option PublishedBefore). P (local_view (published_view b (files (store_of index)))))
+    bounded h))
 
--- what holds over a folder of registries without a bound holds over the index of the source that names it
-pub over_folder : {T : Type 0} (files : T → StoreView) (index : DirIndex T) (store : T) (named : IndexSource)
-    (folder : String Global) (P : IndexView → Type 0) → named ≡ source.Folder folder
-    → folder_store index ≡ store → folder_bound index ≡ None → folder_of index ≡ string_bytes folder
-    → P (dir_view (folder_of index) (folder_files files index)) → P (index_view named (files store))
-over_folder {T} files index store named folder P at is unbound same h =
-    subst (λ (i : IndexSource). P (index_view i (files store))) (sym at)
-    (subst (λ (f : List ℕ). P (dir_view f (files store))) same
-    (subst (λ (s : T). P (dir_view (folder_of index) (files s))) is
+-- what holds over a folder of registries with a bound holds over the index of the source that names it
+pub over_folder : {T : Type 0} (files : T → StoreView) (index : DirIndex T) (store : T)
+    (bound : Option PublishedBefore) (named : IndexSource) (folder : String Global) (P : IndexView → Type 0)
+    → named ≡ source.Folder folder → folder_store index ≡ store → folder_bound index ≡ bound
+    → folder_of index ≡ string_bytes folder
+    → P (dir_view (folder_of index) (folder_files files index)) → P (index_view bound named (files store))
+over_folder {T} files index store bound named folder P at is bounded same h =
+    subst (λ (i : IndexSource). P (index_view bound i (files store))) (sym at)
+    (subst (λ (f : List ℕ). P (dir_view f (published_view bound (files store)))) same
+    (subst (λ (s : T). P (dir_view (folder_of index) (published_view bound (files s)))) is
     (subst (λ (b : Option PublishedBefore).
-    P (dir_view (folder_of index) (published_view b (files (folder_store index))))) unbound h)))
+    P (dir_view (folder_of index) (published_view b (files (folder_store index))))) bounded h)))

@@ -45,6 +45,7 @@ answers_count o inputs configs old now view p h = record {
   reach = h.reach;
   latest = h.latest;
   never_lower = h.never_lower;
+  level = h.level;
   fixed_point = h.fixed_point;
   needs = h.needs;
   missing = h.missing;

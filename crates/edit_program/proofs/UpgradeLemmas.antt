@@ -49,22 +49,22 @@ plan_paths args s lock local plan own planned =
 pub planned_for : (args : UpgradeArgs) (s : Sources) (local : StoreView) (plan : UpgradePlan)
     (packages lock : Option (List Package)) → packages ≡ restriction args.to_lockfile lock
     → IsPlanned args.options s.target.inputs.items (lists_for s.configs)
-    (locked_view packages (index_view s.index local)) plan
+    (locked_view packages (index_view args.published_before s.index local)) plan
     → IsPlannedFor args s lock local plan
 planned_for args s local plan packages lock is planned =
     subst (λ (ps : Option (List Package)). IsPlanned args.options s.target.inputs.items (lists_for s.configs)
-    (locked_view ps (index_view s.index local)) plan) is planned
+    (locked_view ps (index_view args.published_before s.index local)) plan) is planned
 
 -- and one that is refused
 pub unplanned_for : (args : UpgradeArgs) (s : Sources) (local : StoreView) (e : Error)
     (packages lock : Option (List Package)) → packages ≡ restriction args.to_lockfile lock
     → IsMemory e ⊎ IsPlanCause args.options s.target.inputs.items (lists_for s.configs)
-    (locked_view packages (index_view s.index local)) e
+    (locked_view packages (index_view args.published_before s.index local)) e
     → IsMemory e ⊎ IsPlanCause args.options s.target.inputs.items (lists_for s.configs)
     (upgrade_index args lock s.index local) e
 unplanned_for args s local e packages lock is refused =
     subst (λ (ps : Option (List Package)). IsMemory e ⊎ IsPlanCause args.options s.target.inputs.items
-    (lists_for s.configs) (locked_view ps (index_view s.index local)) e) is refused
+    (lists_for s.configs) (locked_view ps (index_view args.published_before s.index local)) e) is refused
 
 -- what is said of a workspace that is borrowed
 same_workspace : (r : Option (Bor Workspace)) (w : Option Workspace) → option_copied r ≡ w

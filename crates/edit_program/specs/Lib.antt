@@ -1,4 +1,5 @@
 pub mod Absent
+pub mod ParsedBound
 pub mod ParsedOptions
 pub mod Commands
 pub mod Merged

@@ -1,12 +1,16 @@
 -- The arguments of `upgrade` and of `looks`.
-use Rattle.std.specs.Prelude.{◌≡◌, ◌⊎◌, ◌&&◌, ◌||◌, List, Bool, Option, Some, None, codes, is_some, not, true, false}
+use Rattle.std.specs.Prelude.{◌≡◌, ◌⊎◌, ◌&&◌, ◌||◌, List, Bool, Option, Some, None, codes, if◌then◌else◌, is_some, not, option_map, true, false}
+use Rattle.std.specs.Str.{bytes_eq}
 use Rattle.clap.specs.Words.{Row, Text, first_of}
 use Rattle.edit_sources.specs.Configured.{given}
 use Rattle.edit_steps.specs.declared.upgrade_read.source_request.RustChoice.{RustChoice}
 use Rattle.edit_steps.specs.declared.upgrade_read.source_request.RustChoice.TheVariants as choice
 use Rattle.edit_program.specs.declared.upgrade_run.upgrade_args.UpgradeArgs.{UpgradeArgs}
 use Rattle.edit_version.specs.RustVersions.{numbers_of, rust_of}
+use Rattle.edit_version.specs.declared.levels.Level.{Level}
+use Rattle.edit_version.specs.declared.levels.Level.TheVariants.{Major, Minor, Patch}
 use Rattle.edit_version.specs.declared.rust_version.RustVersion.{RustVersion}
+use Rattle.edit_program.specs.ParsedBound.{HasBoundFault, IsGivenBound}
 use Rattle.edit_program.specs.ParsedOptions.{HasOptions, HasBadStatus, is_given, status_of}
 use Rattle.edit_program.specs.Presented.{presentation_of}
 use Rattle.edit_program.specs.declared.output_format.PlanCommand.TheVariants.{Upgrade}
@@ -25,6 +29,22 @@ abbrev pub HasNoRust : Option Text → Bool → Type 0
 HasNoRust None ignored = ⊥
 HasNoRust (Some text) false = rust_of text ≡ None
 HasNoRust (Some text) true = Unit {0}
+
+-- the level that a value names; none for other values
+abbrev pub level_of_value : Text → Option Level
+level_of_value text =
+    if bytes_eq text (codes "patch") then Some Patch
+    else (if bytes_eq text (codes "minor") then Some Minor
+    else (if bytes_eq text (codes "major") then Some Major else None))
+
+-- the level that a value sets, if there is one; none where it names no level
+abbrev pub level_in : Option Text → Option (Option Level)
+level_in None = Some None
+level_in (Some text) = option_map (λ level. Some level) (level_of_value text)
+
+-- the level that `--level` sets, if it is given; none where its value names no level
+abbrev pub level_of : List Row → Option (Option Level)
+level_of rows = level_in (first_of (codes "level") rows)
 
 -- both an index file and an index folder are given
 abbrev pub has_two_indexes : List Row → Bool
@@ -54,18 +74,22 @@ pub record HasUpgradeArgs (rows : List Row) (w : UpgradeArgs) : Type 0 where
   pub rust : IsRust (first_of (codes "rust-version") rows)
       (is_given (codes "ignore-rust-version") rows) w.rust
   pub options : HasOptions rows w.options
+  pub level : level_of rows ≡ Some w.options.level
   pub presentation : presentation_of Upgrade rows ≡ Some w.presentation
   pub calls : given w.update_calls ≡ first_of (codes "update-calls") rows
   pub lock : given w.lock_file ≡ first_of (codes "lock-file") rows
   pub offline : w.offline ≡ is_given (codes "offline") rows
   pub to_lockfile : w.to_lockfile ≡ is_given (codes "to-lockfile") rows
   pub usable : has_lockfile_fault w.options.incompatible rows ≡ false
+  pub bound : IsGivenBound rows w.published_before
 
 -- two indexes are given, an option has an invalid value, the options for Rust versions or for the output
--- format are invalid, or `--to-lockfile` cannot be used
+-- format are invalid, `--level` names no level, `--to-lockfile` cannot be used, or the options for the time
+-- of publication are invalid
 abbrev pub HaveUpgradeFault : List Row → Type 0
 HaveUpgradeFault rows =
     (has_two_indexes rows ≡ true)
     ⊎ (HasBadStatus rows
     ⊎ (HasNoRust (first_of (codes "rust-version") rows) (is_given (codes "ignore-rust-version") rows)
-    ⊎ ((presentation_of Upgrade rows ≡ None) ⊎ HasLockfileFault rows)))
+    ⊎ ((presentation_of Upgrade rows ≡ None)
+    ⊎ ((level_of rows ≡ None) ⊎ (HasLockfileFault rows ⊎ HasBoundFault rows)))))

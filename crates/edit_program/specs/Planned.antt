@@ -10,7 +10,9 @@ use Rattle.edit_sources.specs.Configured.{given}
 use Rattle.edit_sources.specs.FileIndex.{file_view}
 use Rattle.edit_sources.specs.Index.{IndexView}
 use Rattle.edit_sources.specs.LocalIndex.{local_view}
+use Rattle.edit_sources.specs.Published.{published_view}
 use Rattle.edit_sources.specs.declared.config.Config.{Config}
+use Rattle.edit_sources.specs.declared.published.PublishedBefore.{PublishedBefore}
 use Rattle.edit_store.specs.Store.{StoreView}
 use Rattle.edit_upgrade.specs.Caches.{CacheView}
 use Rattle.edit_upgrade.specs.Causes.{IsCause}
@@ -32,6 +34,7 @@ to_request args = record {
   metadata = given args.metadata_json;
   index = given args.index_file;
   index_dir = given args.index_dir;
+  published_before = args.published_before;
   config = given args.config;
   default_config = given args.default_config;
   rust = rust_request args.rust;
@@ -44,17 +47,18 @@ to_lookup_request args = record {
   metadata = given args.metadata_json;
   index = None;
   index_dir = None;
+  published_before = args.published_before;
   config = given args.config;
   default_config = given args.default_config;
   rust = rust_request args.rust;
 }
 
 -- the index of an upgrade: the lines of the index file, the index folder, or the index in files; the last
--- two use the same files
-abbrev pub index_view : IndexSource → StoreView → IndexView
-index_view source.Files local = local_view local
-index_view (source.Lines index) local = file_view index
-index_view (source.Folder folder) local = dir_view (string_bytes folder) local
+-- two use the same files, with a bound the lines of versions that were published by then
+abbrev pub index_view : Option PublishedBefore → IndexSource → StoreView → IndexView
+index_view bound source.Files local = local_view (published_view bound local)
+index_view bound (source.Lines index) local = file_view index
+index_view bound (source.Folder folder) local = dir_view (string_bytes folder) (published_view bound local)
 
 -- the packages to which an upgrade is restricted: with `--to-lockfile` those of the lock file
 abbrev pub restriction : Bool → Option (List Package) → Option (List Package)
@@ -63,7 +67,7 @@ restriction to_lockfile lock = if to_lockfile then Some (unwrap_or lock []) else
 -- the index of an upgrade, with `--to-lockfile` restricted to the packages of the lock file
 abbrev pub upgrade_index : UpgradeArgs → Option (List Package) → IndexSource → StoreView → IndexView
 upgrade_index args lock index local =
-    locked_view (restriction args.to_lockfile lock) (index_view index local)
+    locked_view (restriction args.to_lockfile lock) (index_view args.published_before index local)
 
 -- an empty cache
 abbrev pub empty_answers : CachedAnswers

@@ -1,9 +1,10 @@
 -- The output format of a plan, from the arguments of `upgrade` and `set-version`.
-use Rattle.std.specs.Prelude.{◌&&◌, ℕ, Bool, List, [], Option, Some, None, codes, false, if◌then◌else◌}
+use Rattle.std.specs.Prelude.{◌&&◌, ◌||◌, ℕ, Bool, List, [], Option, Some, None, codes, false, if◌then◌else◌, true}
+use Rattle.std.specs.Option.{option_map_or}
 use Rattle.std.specs.Str.{bytes_eq}
-use Rattle.clap.specs.Words.{Row, Text}
+use Rattle.clap.specs.Words.{Row, Text, first_of}
 use Rattle.edit_shown.specs.declared.presentation.MessageFormat.{MessageFormat}
-use Rattle.edit_shown.specs.declared.presentation.MessageFormat.TheVariants.{Human, Json, Markdown}
+use Rattle.edit_shown.specs.declared.presentation.MessageFormat.TheVariants.{Human, Json, Markdown, Github}
 use Rattle.edit_shown.specs.declared.presentation.Presentation.{Presentation}
 use Rattle.edit_program.specs.ParsedOptions.{is_given, value_of}
 use Rattle.edit_program.specs.declared.output_format.PlanCommand.{PlanCommand}
@@ -16,7 +17,8 @@ without_diffs format diff = if diff then None else Some (record { format = forma
 -- a format that only an upgrade has, from `--message-format` and `--diff`
 abbrev pub upgrade_format : Text → Bool → Option Presentation
 upgrade_format format diff =
-    if bytes_eq format (codes "markdown") then without_diffs Markdown diff else None
+    if bytes_eq format (codes "markdown") then without_diffs Markdown diff
+    else (if bytes_eq format (codes "github") then without_diffs Github diff else None)
 
 -- a format beside the two that each command has
 abbrev pub other_format : PlanCommand → Text → Bool → Option Presentation
@@ -30,10 +32,20 @@ format_of_options command format diff =
     else (if bytes_eq format (codes "json") then without_diffs Json diff
     else other_format command format diff)
 
+-- a text says when reports are colored (as cargo has it)
+abbrev pub is_color : Text → Bool
+is_color text = bytes_eq text (codes "auto") || (bytes_eq text (codes "always") || bytes_eq text (codes "never"))
+
+-- `--color` is not given, or has one of its values; it changes nothing of what is printed here
+abbrev pub has_color : List Row → Bool
+has_color rows = option_map_or is_color (first_of (codes "color") rows) true
+
 -- the output format that parsed arguments of a command give
 abbrev pub presentation_of : PlanCommand → List Row → Option Presentation
 presentation_of command rows =
-    format_of_options command (value_of (codes "message-format") [] rows) (is_given (codes "diff") rows)
+    if has_color rows
+    then format_of_options command (value_of (codes "message-format") [] rows) (is_given (codes "diff") rows)
+    else None
 
 -- the exit status after a plan: 1 where `--check` is given and the plan has an output, else 0
 abbrev pub status_after : List Row → Bool → ℕ

@@ -15,6 +15,8 @@ pub(crate) enum ArgsFault<'a> {
     Needs(&'static str, &'static str),
     /// An option, its valid values, and the invalid one that is given.
     Value(&'static str, &'static str, &'a str),
+    /// An option, the name of its value, the invalid value that is given, and what it is not.
+    Invalid(&'static str, &'static str, &'a str, &'static str),
     /// A text that is no version of Rust, and why.
     Rust(&'a str, Error),
     /// An argument that is no level, and the error message.
@@ -32,6 +34,12 @@ impl fmt::Display for ArgsFault<'_> {
             ArgsFault::Needs(one, other) => { write!(f, "the argument '{one}' needs '{other}'") }
             ArgsFault::Value(option, values, value) => {
                 write!(f, "invalid value '{value}' for '--{option} <{values}>'")
+            }
+            ArgsFault::Invalid(option, name, value, expected) => {
+                write!(
+                    f,
+                    "invalid value '{value}' for '--{option} <{name}>': {expected}"
+                )
             }
             ArgsFault::Rust(text, error) => {
                 write!(

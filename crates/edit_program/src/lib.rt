@@ -9,6 +9,7 @@ mod lookup_lines;
 mod lookups;
 mod output_format;
 mod program;
+mod publication_bound;
 mod run_folders;
 mod set_version_parser;
 mod set_version_run;

@@ -1,8 +1,8 @@
 //! The output format of a plan, and whether the plan is only checked.
-ghost use Rattle.std.specs.Prelude.{◌≡◌, IfErr, IfOk, None, Some};
+ghost use Rattle.std.specs.Prelude.{◌≡◌, IfErr, IfOk, None, OnOk, Some, false, true};
 ghost use Rattle.clap.specs.Words.{found_of, rows_of};
 ghost use Rattle.edit_program.specs.ParsedOptions.{is_dry};
-ghost use Rattle.edit_program.specs.Presented.{presentation_of, format_of_options, status_after, upgrade_format, without_diffs};
+ghost use Rattle.edit_program.specs.Presented.{has_color, is_color, presentation_of, format_of_options, status_after, upgrade_format, without_diffs};
 
 use crate::args_error::{ArgsError, ArgsFault};
 use crate::lookups::is_given;
@@ -46,7 +46,8 @@ fn upgrade_format<'a>(format: &'a str, diff: bool) -> Result<Presentation, ArgsE
 {
     match format {
         "markdown" => without_diffs(MessageFormat::Markdown, "--message-format markdown", diff),
-        _ => Err(format_fault("human|json|markdown", format)),
+        "github" => without_diffs(MessageFormat::Github, "--message-format github", diff),
+        _ => Err(format_fault("human|json|markdown|github", format)),
     }
 }
 
@@ -72,7 +73,30 @@ fn format_of_options<'a>(
     }
 }
 
-/// The output format of a command's plan, from parsed arguments.
+/// An error where a text does not say when reports are colored.
+fn check_color<'a>(color: &'a str) -> Result<(), ArgsError<'a>>
+    ensures ok { OnOk result (is_color color.now ≡ true) }
+    ensures error { IfErr result (λ _. is_color color.now ≡ false) }
+{
+    match color {
+        "auto" | "always" | "never" => Ok(()),
+        _ => Err(ArgsError::Fault(ArgsFault::Value("color", "auto|always|never", color))),
+    }
+}
+
+/// An error where `--color` is given with none of its values.
+fn check_color_option<'a>(matches: &ArgMatches<'a>) -> Result<(), ArgsError<'a>>
+    ensures ok { OnOk result (has_color (rows_of (found_of matches.now)) ≡ true) }
+    ensures error { IfErr result (λ _. has_color (rows_of (found_of matches.now)) ≡ false) }
+{
+    match matches.get_str("color") {
+        Some(color) => check_color(color),
+        None => Ok(()),
+    }
+}
+
+/// The output format of a command's plan, from parsed arguments; an error where `--color` has none of its
+/// values.
 pub(crate) fn presentation<'a>(
     matches: &ArgMatches<'a>,
     command: PlanCommand,
@@ -81,6 +105,7 @@ pub(crate) fn presentation<'a>(
     ensures error { IfErr result (λ _.
         presentation_of command (rows_of (found_of matches.now)) ≡ None) }
 {
+    check_color_option(matches)?;
     let format = matches.get_str("message-format").unwrap_or("");
     format_of_options(command, format, is_given(matches, "diff"))
 }

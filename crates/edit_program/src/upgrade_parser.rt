@@ -4,17 +4,18 @@ ghost use Rattle.std.specs.Str.{bytes_eq};
 ghost use Rattle.clap.specs.Words.{first_of, found_of, rows_of};
 ghost use Rattle.edit_program.specs.declared.args_error.ArgsError.TheVariants as parse_error;
 ghost use Rattle.edit_program.specs.ParsedOptions.{HasOptions, HasBadStatus, is_given, status_of, status_of_value, verbosity_of};
-ghost use Rattle.edit_program.specs.ParsedUpgrade.{HasUpgradeArgs, HasNoRust, HaveUpgradeFault, IsRust, has_lockfile_fault, has_two_indexes};
+ghost use Rattle.edit_program.specs.ParsedUpgrade.{HasUpgradeArgs, HasNoRust, HaveUpgradeFault, IsRust, has_lockfile_fault, has_two_indexes, level_in, level_of, level_of_value};
 
 use crate::args_error::{ArgsError, ArgsFault};
 use crate::lookups::{has_value, is_either_given, is_given, values_of};
 use crate::output_format::{PlanCommand, is_dry, presentation};
+use crate::publication_bound::publication_bound;
 use crate::upgrade_run::UpgradeArgs;
 use clap::ArgMatches;
 use edit_base::Error;
 use edit_steps::upgrade_read::RustChoice;
 use edit_upgrade::Options;
-use edit_version::RustVersion;
+use edit_version::{Level, RustVersion};
 use std::alloc::Global;
 
 /// Whether a value allows or ignores a kind of upgrade; `None` for any other value.
@@ -95,9 +96,56 @@ fn rust_choice<'a>(
     }
 }
 
-/// The options of an upgrade, from parsed arguments of `upgrade`.
-fn options_of<'a>(alloc: Global, matches: &ArgMatches<'a>) -> Result<Options, ArgsError<'a>>
+/// The level that a value names; `None` for any other value.
+fn level_of_value(value: &str) -> Option<Level>
+    ensures { result ≡ level_of_value value.now }
+{
+    match value {
+        "patch" => Some(Level::Patch),
+        "minor" => Some(Level::Minor),
+        "major" => Some(Level::Major),
+        _ => None,
+    }
+}
+
+/// The level that a value sets; a value that names none is an error.
+fn named_level<'a>(value: &'a str) -> Result<Option<Level>, ArgsError<'a>>
+    ensures ok { IfOk result (λ l. level_in (Some value.now) ≡ Some l) }
+    ensures error { IfErr result (λ _. level_in (Some value.now) ≡ None) }
+{
+    match level_of_value(value) {
+        Some(level) => Ok(Some(level)),
+        None => Err(ArgsError::Fault(ArgsFault::Value("level", "patch|minor|major", value))),
+    }
+}
+
+/// The level that a value sets, if there is one; a value that names none is an error.
+fn level_in<'a>(value: Option<&'a str>) -> Result<Option<Level>, ArgsError<'a>>
+    ensures ok { IfOk result (λ l. level_in (option_map (λ s. s.now) value.entry) ≡ Some l) }
+    ensures error { IfErr result (λ _. level_in (option_map (λ s. s.now) value.entry) ≡ None) }
+{
+    match value {
+        Some(text) => named_level(text),
+        None => Ok(None),
+    }
+}
+
+/// The level that `--level` sets, if it is given.
+fn level_of<'a>(matches: &ArgMatches<'a>) -> Result<Option<Level>, ArgsError<'a>>
+    ensures ok { IfOk result (λ l. level_of (rows_of (found_of matches.now)) ≡ Some l) }
+    ensures error { IfErr result (λ _. level_of (rows_of (found_of matches.now)) ≡ None) }
+{
+    level_in(matches.get_str("level"))
+}
+
+/// The options of an upgrade, from parsed arguments of `upgrade` and the level that they set.
+fn options_of<'a>(
+    alloc: Global,
+    matches: &ArgMatches<'a>,
+    level: Option<Level>,
+) -> Result<Options, ArgsError<'a>>
     ensures options { IfOk result (HasOptions (rows_of (found_of matches.now))) }
+    ensures level { IfOk result (λ o. o.level ≡ level) }
     ensures error { IfErr result (λ e. e ≢ parse_error.Memory
         → HasBadStatus (rows_of (found_of matches.now))) }
 {
@@ -112,6 +160,7 @@ fn options_of<'a>(alloc: Global, matches: &ArgMatches<'a>) -> Result<Options, Ar
         recursive: recursive_option(matches),
         verbosity: verbosity(matches.get_count("verbose"), matches.get_count("quiet")),
         never_lower: is_either_given(matches, "never-lower", "to-lockfile"),
+        level,
     })
 }
 
@@ -162,8 +211,10 @@ pub(crate) fn parse_upgrade_args<'a>(
     }
     let ignored = is_given(matches, "ignore-rust-version");
     let rust = rust_choice(alloc, matches.get_str("rust-version"), ignored)?;
+    let published_before = publication_bound(matches)?;
     let presentation = presentation(matches, PlanCommand::Upgrade)?;
-    let options = options_of(alloc, matches)?;
+    let level = level_of(matches)?;
+    let options = options_of(alloc, matches, level)?;
     let to_lockfile = to_lockfile(matches, options.incompatible)?;
     Ok(UpgradeArgs {
         manifest_path: matches.get_str("manifest-path"),
@@ -179,5 +230,6 @@ pub(crate) fn parse_upgrade_args<'a>(
         lock_file: matches.get_str("lock-file"),
         offline: is_given(matches, "offline"),
         to_lockfile,
+        published_before,
     })
 }

@@ -9,6 +9,7 @@ use std::alloc::{AllocError, Global};
 /// those that decide what is printed or written.
 const UNAVAILABLE: &[&str] = &[
     "check",
+    "color",
     "config",
     "default-config",
     "diff",

@@ -8,3 +8,5 @@ pub mod LineLemmas
 pub mod LineKindLemmas
 pub mod FloatLemmas
 pub mod MarkdownLemmas
+pub mod AnnotationLemmas
+pub mod RequirementLineLemmas

@@ -8,7 +8,7 @@ use Rattle.std.proofs.lemmas.Str.Pattern.{starts_text}
 use Rattle.edit_shown.specs.Diffs.{strip_folder}
 
 -- a text that begins with another, and what it has behind it
-begun : (n s rest : List ℕ) → StripsPrefix (FindsTextPrefix n) s rest
+pub begun : (n s rest : List ℕ) → StripsPrefix (FindsTextPrefix n) s rest
     → (starts_with nat_eq s n ≡ true) × (rest ≡ drop (length n) s)
 begun n s rest h = (
   sym (starts_text true n s (h.0, h.1, subst (IsCharBoundary s) (sym h.1.0) h.1.2)),
@@ -16,7 +16,7 @@ begun n s rest h = (
 )
 
 -- a text that does not
-other : (n s : List ℕ) → FindsTextPrefix n s None → starts_with nat_eq s n ≡ false
+pub other : (n s : List ℕ) → FindsTextPrefix n s None → starts_with nat_eq s n ≡ false
 other n s h = sym (starts_text false n s h)
 
 -- a path below the folder

@@ -9,3 +9,6 @@ pub mod Unified
 pub mod Fields
 pub mod JsonMessages
 pub mod Markdown
+pub mod RequirementLines
+pub mod Annotations
+pub mod InputDocuments

@@ -1,6 +1,7 @@
-//! The output of a plan in forms other than aligned tables: JSON, Markdown, and unified diffs.
+//! The output of a plan in forms other than aligned tables: JSON, Markdown, annotations, and unified diffs.
 #![tactic(auto)]
 
+mod annotations;
 mod changes;
 pub mod diff;
 mod diffs;
@@ -10,6 +11,7 @@ mod messages;
 mod paths;
 mod presentation;
 
+pub use annotations::print_annotations;
 pub use changes::print_changes;
 pub use diffs::print_diffs;
 pub use markdown::print_markdown;

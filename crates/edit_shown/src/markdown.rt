@@ -9,6 +9,7 @@ mod cells;
 mod groups;
 mod lines;
 
+pub(crate) use crate::markdown::cells::change_text;
 use crate::markdown::groups::{group_inputs, print_groups};
 use crate::markdown::lines::shown_lines;
 use edit_base::CargoResult;

@@ -16,7 +16,7 @@ use std::alloc::Global;
 use std::io;
 
 /// The path of the input at this index; the empty text where there is none.
-fn path_at(inputs: &[Input], i: usize) -> &str
+pub(crate) fn path_at(inputs: &[Input], i: usize) -> &str
     ensures { result.now ≡ spec.path_at inputs.now i }
 {
     match inputs.get(i) {

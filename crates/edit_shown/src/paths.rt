@@ -1,6 +1,7 @@
-//! Paths of manifests in a diff.
+//! Paths of manifests in diffs and annotations.
 ghost use Rattle.std.specs.Prelude.{◌≡◌, IfErr, IfOk, string_bytes};
 ghost use Rattle.edit_base.specs.Errors.{IsMemory};
+ghost use Rattle.edit_shown.specs.Annotations.{relative_path, without_folder};
 ghost use Rattle.edit_shown.specs.Diffs.{strip_folder, folder_text, shown_path};
 
 use edit_base::CargoResult;
@@ -37,4 +38,23 @@ pub(crate) fn shown_path<'a>(alloc: Global, folder: &str, path: &'a str) -> Carg
 {
     let folder = folder_text(alloc, folder)?;
     Ok(strip_folder(folder.as_str(), path))
+}
+
+/// A path without a folder before it; the path itself where it is not in the folder.
+fn without_folder<'a>(folder: &str, path: &'a str) -> &'a str
+    ensures { result.now ≡ without_folder folder.now path.now }
+{
+    match path.strip_prefix(folder) {
+        Some(rest) => rest,
+        None => path,
+    }
+}
+
+/// The path of a file relative to a folder; the path itself where it is not in the folder.
+pub(crate) fn relative_path<'a>(alloc: Global, folder: &str, path: &'a str) -> CargoResult<&'a str>
+    ensures text { IfOk result (λ s. s.now ≡ relative_path folder.now path.now) }
+    ensures error { IfErr result IsMemory }
+{
+    let folder = folder_text(alloc, folder)?;
+    Ok(without_folder(folder.as_str(), path))
 }

@@ -7,6 +7,8 @@ pub enum MessageFormat {
     Json,
     /// One table of GitHub Flavored Markdown.
     Markdown,
+    /// Annotations of GitHub Actions.
+    Github,
 }
 
 /// What is printed of a plan on standard output.

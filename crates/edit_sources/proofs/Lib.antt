@@ -10,6 +10,7 @@ pub mod KeyLemmas
 pub mod LineLemmas
 pub mod NameLemmas
 pub mod OutcomeLemmas
+pub mod PublishedErrors
 pub mod PublishedLemmas
 pub mod RunLemmas
 pub mod SameLookups

@@ -71,7 +71,7 @@ one_reading lines a b x y = sym (all_said lines a x) ∙ all_said lines b y
 -- ---- lines before a malformed one are valid
 
 -- a line that is blank or valid
-abbrev IsGood : List ℕ → Type 0
+abbrev pub IsGood : List ℕ → Type 0
 IsGood line = (is_blank line ≡ true) ⊎ ((e : IndexEntry) × IsIndexLine line e)
 
 each_good : (lines : List (List ℕ)) (entries : List IndexEntry) → HaveEntriesInOrder lines entries

@@ -1,5 +1,5 @@
 -- Index lines of versions that were published at or before a bound (Cargo reference, "Registries", pubtime).
-use Rattle.std.specs.Prelude.{ℕ, ℤ, List, [], ◌∷◌, Option, Some, None, option_and_then, option_map, Bool, false, not, codes, map, int_le, ◌&&◌, if◌then◌else◌}
+use Rattle.std.specs.Prelude.{ℕ, ℤ, pos, ◌-ℤ◌, ◌*ℤ◌, List, [], ◌∷◌, Option, Some, None, option_and_then, option_map, Bool, false, not, codes, map, int_le, ◌&&◌, if◌then◌else◌}
 use Rattle.std.specs.List.{join_with_byte}
 use Rattle.std.specs.Option.{is_some, option_map_or}
 use Rattle.std.specs.Result.{result_ok}
@@ -16,6 +16,10 @@ use Rattle.edit_sources.specs.declared.published.PublishedBefore.{PublishedBefor
 -- and of what `jiff` accepts beyond it (RFC 9557)
 abbrev pub instant_of : List ℕ → Option ℤ
 instant_of text = result_ok (parse_timestamp text)
+
+-- the instant that lies a number of days, of 24 hours each, before another one (own)
+abbrev pub days_before : ℕ → ℤ → ℤ
+days_before days now = now -ℤ pos days *ℤ pos 86_400_000_000_000
 
 -- the time at which a version was published, if it is known: that of the string `pubtime` (Cargo reference,
 -- "Registries", pubtime)
@@ -54,6 +58,11 @@ published_line bound line = if is_withheld bound line then [] else line
 -- the text of an index in which each line of a version that was not published by the bound is empty (own)
 abbrev pub published_text : PublishedBefore → List ℕ → List ℕ
 published_text bound text = join_with_byte 10 (map (published_line bound) (lines_of text))
+
+-- the text of an index with the lines of versions that were published by the bound, if there is one (own)
+abbrev pub text_by : Option PublishedBefore → List ℕ → List ℕ
+text_by None text = text
+text_by (Some bound) text = published_text bound text
 
 -- the line feed that ends a line, if there are lines after it (own)
 abbrev pub line_end : Bool → List ℕ

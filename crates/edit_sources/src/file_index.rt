@@ -4,10 +4,12 @@ ghost use Rattle.std.specs.Option.{option_map_or};
 ghost use Rattle.std.specs.Str.{bytes_eq};
 ghost use Rattle.edit_sources.specs.FileIndex.{AreNamed, GroupsByName, IsAdded, HoldsLines, file_view};
 ghost use Rattle.edit_sources.specs.IndexLines.{IsLinesError, lines_of};
+ghost use Rattle.edit_sources.specs.Published.{text_by};
 
 use crate::crate_name::is_crate_name;
 use crate::index::{Index, IndexKrate, clone_versions};
 use crate::index_lines::read_lines;
+use crate::published::{PublishedBefore, retain_published};
 use edit_base::errors::{CargoResult, Error};
 use edit_version::fetch::IndexVersion;
 use std::alloc::{AllocError, Global};
@@ -31,6 +33,23 @@ impl FileIndex {
         Ok(FileIndex {
             groups: group_by_crate(alloc, entries)?,
         })
+    }
+
+    /// Parses the lines of an index, without the versions that were not published by the bound, if there is
+    /// one; `Error::IndexLine` with the number of the first malformed line.
+    pub fn with_bound(
+        alloc: Global,
+        bytes: &[u8],
+        bound: Option<PublishedBefore>,
+    ) -> CargoResult<FileIndex>
+        ensures entries { IfOk result (λ i. HoldsLines i (text_by bound bytes.now)) }
+        ensures error { IfErr result (IsLinesError (lines_of bytes.now)) }
+    {
+        let Some(bound) = bound else {
+            return FileIndex::read(alloc, bytes);
+        };
+        let published = retain_published(alloc, bytes, bound)?;
+        FileIndex::read(alloc, &published)
     }
 }
 

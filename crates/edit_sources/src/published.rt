@@ -1,8 +1,8 @@
 //! Index lines of versions that were published at or before a bound.
-ghost use Rattle.std.specs.Prelude.{◌≡◌, [], ◌++◌, ◌-ℤ◌, ◌*ℤ◌, pos, true, IfErr, IfOk, OnOk, map, not, option_map, ◌&&◌, if◌then◌else◌};
+ghost use Rattle.std.specs.Prelude.{◌≡◌, [], ◌++◌, true, IfErr, IfOk, OnOk, map, not, option_map, ◌&&◌, if◌then◌else◌};
 ghost use Rattle.edit_base.specs.Errors.{IsMemory};
 ghost use Rattle.edit_sources.specs.IndexLines.{lines_of};
-ghost use Rattle.edit_sources.specs.Published.{has_entry, instant_of, is_by, is_withheld, line_end, publish_time, published_files, published_line, published_text};
+ghost use Rattle.edit_sources.specs.Published.{days_before, has_entry, instant_of, is_by, is_withheld, line_end, publish_time, published_files, published_line, published_text};
 ghost use Rattle.edit_store.specs.Store.{HasCause, SameFiles};
 ghost use Rattle.serde_json.specs.View.{view};
 
@@ -28,14 +28,25 @@ impl PublishedBefore {
         Some(PublishedBefore { nanosecond })
     }
 
-    /// The bound that lies a number of days, of 24 hours each, before `now`, in seconds since the Unix epoch.
-    pub fn days_before(now: i64, days: u32) -> PublishedBefore
-        ensures { result.nanosecond ≡ (now -ℤ (pos days *ℤ pos 86_400)) *ℤ pos 1_000_000_000 }
+    /// The bound that lies a number of days, of 24 hours each, before a time as RFC 3339 has it; `None` for
+    /// another text.
+    pub fn days_before(now: &str, days: u32) -> Option<PublishedBefore>
+        ensures { option_map (λ bound. bound.nanosecond) result
+            ≡ option_map (days_before days) (instant_of now.now) }
     {
-        let second = now as i128 - days as i128 * 86_400;
-        PublishedBefore {
-            nanosecond: second * 1_000_000_000,
+        match now.parse::<Timestamp>() {
+            Ok(now) => Some(bound_before(now, days)),
+            Err(_) => None,
         }
+    }
+}
+
+/// The bound that lies a number of days before an instant.
+fn bound_before(now: Timestamp, days: u32) -> PublishedBefore
+    ensures { result.nanosecond ≡ days_before days now.nanosecond }
+{
+    PublishedBefore {
+        nanosecond: now.as_nanosecond() - days as i128 * 86_400_000_000_000,
     }
 }
 

@@ -4,7 +4,9 @@ use Rattle.edit_metadata.specs.Workspaces.{workspace_view}
 use Rattle.edit_metadata.specs.declared.input.Input.{Input}
 use Rattle.edit_metadata.specs.declared.workspace.Workspace.{Workspace}
 use Rattle.edit_sources.specs.FileIndex.{HoldsLines}
+use Rattle.edit_sources.specs.Published.{text_by}
 use Rattle.edit_sources.specs.declared.file_index.FileIndex.{FileIndex}
+use Rattle.edit_sources.specs.declared.published.PublishedBefore.{PublishedBefore}
 use Rattle.edit_steps.specs.Absolute.{IsAbsoluteOf}
 use Rattle.edit_metadata.specs.Inputs.{HaveOwnPaths}
 use Rattle.edit_steps.specs.Workspaces.{IsWorkspaceRead}
@@ -39,25 +41,30 @@ abbrev pub AreDocuments : List DocumentViews → List Input → Type 0
 AreDocuments documents inputs =
     (documents ≡ []) ⊎ (map (λ d. d.bytes) documents ≡ map (λ input. input.bytes.items) inputs)
 
--- the given index file was read
-pub record IsIndexAt (files : Files) (current named : List ℕ) (index : FileIndex) : Type 0 where
+-- the given index file was read: its lines, with a bound those of versions that were published by then
+pub record IsIndexAt (bound : Option PublishedBefore) (files : Files) (current named : List ℕ)
+    (index : FileIndex) : Type 0 where
   pub path : List ℕ
   pub bytes : List ℕ
   pub at : IsAbsoluteOf current named path
   pub is : files path ≡ Some bytes
-  pub holds : HoldsLines index bytes
+  pub holds : HoldsLines index (text_by bound bytes)
 
 -- the given index: the index file was read where one is given, else the index folder has this path where
 -- one is given, else it is the index in files
-abbrev pub IsIndexOf : Files → List ℕ → Option (List ℕ) → Option (List ℕ) → IndexSource → Type 0
-IsIndexOf files current (Some named) dir (source.Lines index) = IsIndexAt files current named index
-IsIndexOf files current None (Some dir) (source.Folder path) = IsAbsoluteOf current dir (string_bytes path)
-IsIndexOf files current None None source.Files = ⊤
-IsIndexOf files current _ _ _ = ⊥
+abbrev pub IsIndexOf : Option PublishedBefore → Files → List ℕ → Option (List ℕ) → Option (List ℕ)
+    → IndexSource → Type 0
+IsIndexOf bound files current (Some named) dir (source.Lines index) =
+    IsIndexAt bound files current named index
+IsIndexOf bound files current None (Some dir) (source.Folder path) =
+    IsAbsoluteOf current dir (string_bytes path)
+IsIndexOf bound files current None None source.Files = ⊤
+IsIndexOf bound files current _ _ _ = ⊥
 
 -- the requested index was read
 abbrev pub IsIndexRead : Files → List ℕ → RequestView → IndexSource → Type 0
-IsIndexRead files current asking index = IsIndexOf files current asking.index asking.index_dir index
+IsIndexRead files current asking index =
+    IsIndexOf asking.published_before files current asking.index asking.index_dir index
 
 -- all files that an upgrade depends on were read: its manifests, the given configuration files, the
 -- configurations of each manifest, and the index

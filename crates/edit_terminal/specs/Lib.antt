@@ -1,1 +1,5 @@
 pub mod Shown
+pub mod Styles
+pub mod Lines
+pub mod Rows
+pub mod Report

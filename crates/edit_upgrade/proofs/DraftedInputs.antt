@@ -10,7 +10,7 @@ use Rattle.edit_sources.specs.declared.config.Config.{Config}
 use Rattle.edit_version.specs.RustVersions.{numbers_of}
 use Rattle.edit_upgrade.specs.Caches.{CacheView}
 use Rattle.edit_upgrade.specs.Drafts.{ArePlanned, IsDraft, lines_on}
-use Rattle.edit_upgrade.specs.Headline.{IsSettled, KeepsFloor, LatestIsNotLess, Narrows, NeedsAsBefore, Reaches}
+use Rattle.edit_upgrade.specs.Headline.{IsSettled, KeepsFloor, LatestIsNotLess, Narrows, NeedsAsBefore, Reaches, StaysWithin}
 use Rattle.edit_metadata.specs.Inputs.{path_of}
 use Rattle.edit_upgrade.specs.Inputs.{EachInput, Setting, below, outputs_at, rows_of, setting_of}
 use Rattle.edit_upgrade.specs.Lines.{line_of}
@@ -28,7 +28,7 @@ use Rattle.edit_upgrade.specs.declared.upgrade.Warning.{Warning}
 use Rattle.edit_upgrade.specs.declared.decision.options.Options.{Options}
 use Rattle.edit_upgrade.specs.declared.upgrade.UpgradePlan.{UpgradePlan}
 use Rattle.edit_upgrade.proofs.EndLemmas.{all-below, all-flat, each-some, get-some}
-use Rattle.edit_upgrade.proofs.HeadlineRows.{rows-floor, rows-latest, rows-narrow, rows-reach}
+use Rattle.edit_upgrade.proofs.HeadlineRows.{rows-floor, rows-latest, rows-level, rows-narrow, rows-reach}
 use Rattle.edit_upgrade.proofs.PlannedAgain.{need-same, pending_defined}
 use Rattle.edit_upgrade.proofs.WalkLemmas.{rows-from}
 
@@ -143,6 +143,8 @@ module _ (o : Options) (inputs : List Input) (configs : List (Vec Config)) (old 
     latest = all-lines LatestIsNotLess long (λ s bytes lines same k. rows-latest s bytes lines k);
     never_lower = λ on. all-lines KeepsFloor long
         (λ s bytes lines same k. rows-floor s bytes lines (ap (λ (x : Options). x.never_lower) same ∙ on) k);
+    level = all-lines (StaysWithin o.level) long (λ s bytes lines same k.
+        subst (λ (x : Options). All (StaysWithin x.level) lines) same (rows-level s bytes lines k));
     fixed_point = all-pending_defined;
     needs = all-needs;
     missing = missing;

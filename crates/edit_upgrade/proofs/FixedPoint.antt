@@ -10,6 +10,7 @@ use Rattle.semver.specs.OrderLaws.{same_text}
 use Rattle.semver.specs.Parse.{Parts, req_of}
 use Rattle.edit_tree.specs.Assertions.{Place}
 use Rattle.edit_version.specs.Laws.{holds_plus}
+use Rattle.edit_version.specs.Levels.{versions_within}
 use Rattle.edit_version.specs.Requirement.{Nothing, UpgradeResult, Text, Unread, Unsupported, cut, plain_text, upgrade_of}
 use Rattle.edit_version.specs.Selection.{IsCompatible, IsLatest, is_admitted, is_offered}
 use Rattle.edit_version.proofs.NoPlus.{cut-none, plain-whole, raised-whole}
@@ -32,6 +33,7 @@ use Rattle.edit_report.specs.declared.row.Change.{Change}
 use Rattle.edit_upgrade.specs.declared.decision.options.Options.{Options}
 use Rattle.edit_upgrade.proofs.DecidedAgain.{again, case-plain, case_of}
 use Rattle.edit_upgrade.proofs.HeadlineRows.{offered-valid}
+use Rattle.edit_upgrade.proofs.LevelLemmas.{valid-within}
 use Rattle.edit_upgrade.proofs.TakenVersions.{far-some, far_text, near-some, newer-latest, unless-some, some_if-some}
 use Rattle.edit_upgrade.proofs.WrittenEntries.{old_after, renew, renewed}
 use Rattle.edit_upgrade.proofs.SomeRows.{other-versions}
@@ -180,8 +182,10 @@ some-same a b h = cc h
 -- one entry, decided on the requirement that its row left
 entry-again : (i : ℕ) (o : Options) (xs : List Parts) (e : RowEntry) (old : List ℕ) (line next : Line)
     (new : List ℕ)
-    → requirement_for o e.name ≡ None → All IsValid xs → IsDecided i o xs e old line → line.new ≡ Some new
-    → IsDecided i o xs (record e { old = Some new }) new next → next.change ≡ None
+    → requirement_for o e.name ≡ None → All IsValid xs
+    → IsDecided i o (versions_within o.level old xs) e old line → line.new ≡ Some new
+    → IsDecided i o (versions_within o.level new xs) (record e { old = Some new }) new next
+    → next.change ≡ None
 entry-again i o xs e old line next new plain all d n g =
     let x = is_excluded o e.name in
     let r = is_some e.rename in
@@ -190,8 +194,9 @@ entry-again i o xs e old line next new plain all d n g =
     = ap (λ (k : Case). (decision o k).new) (case-plain o e old d.near d.far plain) in
     let text : new ≡ first.new
     = some-same new first.new (sym n ∙ ap (λ (l : Line). l.new) d.is ∙ ap (λ (t : List ℕ). Some t) is) in
-    let near = subst (λ (t : List ℕ). IsCompatible t xs g.near) text g.compatible in
-    let far = subst (λ (t : List ℕ). IsLatest t xs g.far) text g.latest in
+    let near = subst (λ (t : List ℕ). IsCompatible t (versions_within o.level t xs) g.near) text
+    g.compatible in
+    let far = subst (λ (t : List ℕ). IsLatest t (versions_within o.level t xs) g.far) text g.latest in
     ap (λ (l : Line). l.change) g.is
     ∙ ap (λ (k : Case). (decision o k).change) (case-plain o e new g.near g.far plain)
     ∙ ap (λ (t : List ℕ). (decision o (case_of x r o.never_lower t g.near g.far)).change) text
@@ -245,12 +250,14 @@ row-again s e None l m plain h q d g =
 row-again s e (Some old) l m plain h q d g =
     let first = subst (λ (x : Option (List ℕ)). IsRowOver s.input s.options d.versions e x l) q d.decided in
     let valid = offered-valid s e d.versions d.offered in
-    let n = new-by s.input s.options d.versions e old l l.change plain valid q (h old q) first refl in
+    let n = new-by s.input s.options (versions_within s.options.level old d.versions) e old l l.change plain
+    (valid-within s.options.level old d.versions valid) q (h old q) first refl in
     let next : RowEntry = record e { old = Some n.0 } in
     let row = subst (λ (x : RowEntry). IsRow s x m) n.2 g in
     let same = same-versions s next row.versions d.versions row.offered
     (other-versions (basis_of s) e next d.versions refl refl d.offered) in
-    let again = subst (λ (ys : List Parts). IsDecided s.input s.options ys next n.0 m) same row.decided in
+    let again = subst (λ (ys : List Parts). IsDecided s.input s.options
+    (versions_within s.options.level n.0 ys) next n.0 m) same row.decided in
     entry-again s.input s.options d.versions e old l m n.0 plain valid first n.1 again
 
 -- all entries, decided on the requirements that their rows left

@@ -11,22 +11,25 @@ use Rattle.semver.specs.Parse.{Parts, req_of}
 use Rattle.url.specs.Parts.{serialize}
 use Rattle.edit_tree.specs.Tree.{view_at}
 use Rattle.edit_version.specs.Laws.{Admits, precedence}
+use Rattle.edit_version.specs.Levels.{is_within, versions_within}
 use Rattle.edit_version.specs.Requirement.{plain_text}
 use Rattle.edit_version.specs.RustVersions.{Numbers}
 use Rattle.edit_version.specs.Selection.{IsCompatible, IsLatest, is_admitted, is_offered}
 use Rattle.edit_version.specs.VersionOrder.{full_order}
 use Rattle.edit_version.proofs.Builds.{admits-without_build, plain_text-read, without_build}
 use Rattle.edit_version.proofs.GreatestEntries.{all-valid}
+use Rattle.edit_version.proofs.LevelLaws.{within-build}
 use Rattle.edit_version.proofs.Orders.{greatest-has}
 use Rattle.edit_sources.specs.Index.{answer_of}
 use Rattle.edit_upgrade.specs.Decision.{decision, newer, or_else}
-use Rattle.edit_upgrade.specs.Headline.{IsTextOfVersion, KeepsFloor, LatestIsNotLess, Narrows, Reaches}
+use Rattle.edit_upgrade.specs.Headline.{IsTextOfVersion, KeepsFloor, LatestIsNotLess, Narrows, Reaches, StaysWithin}
 use Rattle.edit_upgrade.specs.Inputs.{Setting}
 use Rattle.edit_upgrade.specs.Lookups.{Answer, lookup_at, versions_in}
 use Rattle.edit_upgrade.specs.Records.{RowEntry, row_entries}
 use Rattle.edit_upgrade.specs.Rows.{AreVersionsFor, IsDecided, IsRowOver, Line, case_for, dashes, elsewhere, line_for, at_address}
 use Rattle.edit_upgrade.specs.Upgraded.{HasRows, IsRow, basis_of}
 use Rattle.edit_upgrade.specs.declared.decision.options.Options.{Options}
+use Rattle.edit_upgrade.proofs.LevelLemmas.{all-within, compatible-stays, latest-stays, valid-within}
 use Rattle.edit_upgrade.proofs.RaisedFloors.{compatible-qualifies, latest-qualifies}
 use Rattle.edit_upgrade.proofs.Narrowing.{latest-not-less, narrowing, reach}
 use Rattle.edit_upgrade.proofs.NotLess.{not-less, not-less-itself}
@@ -139,6 +142,34 @@ line-floor i o xs e old line on all d =
     ] in
     subst KeepsFloor (sym d.is) there
 
+-- a decided row stays within the level of its options, where each version is within it
+pub line-level : (i : ℕ) (o : Options) (xs : List Parts) (e : RowEntry) (old : List ℕ) (line : Line)
+    → All IsValid xs → All (λ v. is_within o.level old v ≡ true) xs
+    → IsDecided i o xs e old line → StaysWithin o.level line
+line-level i o xs e old line all within d =
+    let c = case_for o e old d.near d.far in
+    let there : StaysWithin o.level (line_for i e old d.near d.far (decision o c)) = record {
+      compatible = λ h.
+          let k = compatible-stays o o.level xs c all within d.compatible h in (
+            without_build k.0,
+            subst (λ (x : Option Parts). IsTextOfVersion (option_map plain_text x) (without_build k.0))
+                (sym k.2) (plain-version k.0 k.1),
+            within-build o.level old k.0 ∙ k.3,
+          );
+      latest = λ h.
+          let k = latest-stays o o.level xs c all within d.latest h in (
+            without_build k.0,
+            subst (λ (x : Option Parts). IsTextOfVersion (option_map plain_text (or_else x d.near))
+                (without_build k.0)) (sym k.2) (plain-version k.0 k.1),
+            within-build o.level old k.0 ∙ k.3,
+          );
+      later = λ h w k. elim h [
+        | inl far ↦ (latest-stays o o.level xs c all within d.latest far).4 w k
+        | inr near ↦ (compatible-stays o o.level xs c all within d.compatible near).4 w k
+      ];
+    } in
+    subst (StaysWithin o.level) (sym d.is) there
+
 -- a decided row's latest version is not less
 pub line-latest : (i : ℕ) (o : Options) (xs : List Parts) (e : RowEntry) (old : List ℕ) (line : Line)
     → All IsValid xs → IsDecided i o xs e old line → LatestIsNotLess line
@@ -158,21 +189,27 @@ dashes-latest i o e h = cc h
 dashes-floor : (i : ℕ) (o : Options) (e : RowEntry) → KeepsFloor (dashes i o e)
 dashes-floor i o e h f has = absurd has
 
+dashes-level : (i : ℕ) (o : Options) (e : RowEntry) → StaysWithin o.level (dashes i o e)
+dashes-level i o e = record { compatible = λ h. cc h; latest = λ h. cc h; later = λ h w k. absurd k }
+
 -- ---- all rows
 
 -- what holds of each decided row and of each row of dashes holds of a row
 row-has : (i : ℕ) (o : Options) (P : Line → Type 0) → ((e : RowEntry) → P (dashes i o e))
     → ((xs : List Parts) (e : RowEntry) (old : List ℕ) (line : Line) → All IsValid xs
-    → IsDecided i o xs e old line → P line)
+    → All (λ v. is_within o.level old v ≡ true) xs → IsDecided i o xs e old line → P line)
     → (xs : List Parts) (e : RowEntry) (old : Option (List ℕ)) (line : Line) → All IsValid xs
     → IsRowOver i o xs e old line → P line
 row-has i o P d f xs e None line all h = subst P (sym h) (d e)
-row-has i o P d f xs e (Some old) line all h = f xs e old line all h
+row-has i o P d f xs e (Some old) line all h =
+    f (versions_within o.level old xs) e old line (valid-within o.level old xs all)
+    (all-within o.level old xs) h
 
 -- so it holds of all rows
 all-rows : (s : Setting) (P : Line → Type 0) → ((e : RowEntry) → P (dashes s.input s.options e))
     → ((xs : List Parts) (e : RowEntry) (old : List ℕ) (line : Line) → All IsValid xs
-    → IsDecided s.input s.options xs e old line → P line)
+    → All (λ v. is_within s.options.level old v ≡ true) xs → IsDecided s.input s.options xs e old line
+    → P line)
     → (es : List RowEntry) (ls : List Line) → AllZip (IsRow s) es ls → All P ls
 all-rows s P d f [] [] h = All-nil P
 all-rows s P d f [] (l ∷ ls) h = absurd h
@@ -187,7 +224,7 @@ pub rows-narrow : (s : Setting) (bytes : List ℕ) (lines : List Line) → HasRo
     → All Narrows lines
 rows-narrow s bytes lines h =
     all-rows s Narrows (dashes-narrow s.input s.options)
-    (λ xs e old line all d. line-narrows s.input s.options xs e old line all d)
+    (λ xs e old line all within d. line-narrows s.input s.options xs e old line all d)
     (row_entries (view_at h.form)) lines h.decided
 
 -- they reach their versions
@@ -195,7 +232,7 @@ pub rows-reach : (s : Setting) (bytes : List ℕ) (lines : List Line) → HasRow
     → All Reaches lines
 rows-reach s bytes lines h =
     all-rows s Reaches (dashes-reach s.input s.options)
-    (λ xs e old line all d. line-reaches s.input s.options xs e old line all d)
+    (λ xs e old line all within d. line-reaches s.input s.options xs e old line all d)
     (row_entries (view_at h.form)) lines h.decided
 
 -- their latest versions are not less
@@ -203,7 +240,7 @@ pub rows-latest : (s : Setting) (bytes : List ℕ) (lines : List Line) → HasRo
     → All LatestIsNotLess lines
 rows-latest s bytes lines h =
     all-rows s LatestIsNotLess (dashes-latest s.input s.options)
-    (λ xs e old line all d. line-latest s.input s.options xs e old line all d)
+    (λ xs e old line all within d. line-latest s.input s.options xs e old line all d)
     (row_entries (view_at h.form)) lines h.decided
 
 -- they keep their floors, where requirements are never to be lowered
@@ -211,7 +248,15 @@ pub rows-floor : (s : Setting) (bytes : List ℕ) (lines : List Line) → s.opti
     → HasRows s bytes lines → All KeepsFloor lines
 rows-floor s bytes lines on h =
     all-rows s KeepsFloor (dashes-floor s.input s.options)
-    (λ xs e old line all d. line-floor s.input s.options xs e old line on all d)
+    (λ xs e old line all within d. line-floor s.input s.options xs e old line on all d)
+    (row_entries (view_at h.form)) lines h.decided
+
+-- they stay within the level of the options
+pub rows-level : (s : Setting) (bytes : List ℕ) (lines : List Line) → HasRows s bytes lines
+    → All (StaysWithin s.options.level) lines
+rows-level s bytes lines h =
+    all-rows s (StaysWithin s.options.level) (dashes-level s.input s.options)
+    (λ xs e old line all within d. line-level s.input s.options xs e old line all within d)
     (row_entries (view_at h.form)) lines h.decided
 
 -- each is a row of its input
@@ -219,5 +264,5 @@ pub rows-inputs : (s : Setting) (bytes : List ℕ) (lines : List Line) → HasRo
     → All (λ (line : Line). line.input ≡ s.input) lines
 rows-inputs s bytes lines h =
     all-rows s (λ (line : Line). line.input ≡ s.input) (λ e. refl)
-    (λ xs e old line all d. ap (λ (l : Line). l.input) d.is)
+    (λ xs e old line all within d. ap (λ (l : Line). l.input) d.is)
     (row_entries (view_at h.form)) lines h.decided

@@ -31,12 +31,10 @@ pub mod DraftedInputs
 pub mod CauseLemmas
 pub mod MissingLemmas
 pub mod OptionCauseLemmas
-pub mod Readable
 pub mod NotLess
-pub mod LowerLemmas
-pub mod FloorLemmas
 pub mod Pins
 pub mod TakenVersions
+pub mod LevelLemmas
 pub mod Narrowing
 pub mod RaisedFloors
 pub mod RaisedAgain

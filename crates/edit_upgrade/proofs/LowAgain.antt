@@ -19,8 +19,8 @@ use Rattle.edit_version.proofs.Orders.{fewer, greatest-has, greatest-same}
 use Rattle.edit_version.proofs.Outcomes.{admitted, reads-same, text-outcome, valid-version}
 use Rattle.edit_version.proofs.Shapes.{req-shape}
 use Rattle.edit_upgrade.specs.Decision.{is_too_low, newer}
-use Rattle.edit_upgrade.specs.Floors.{is_below, one_begins_after}
-use Rattle.edit_upgrade.proofs.FloorLemmas.{later-not_after, none-after, plain-not_after}
+use Rattle.edit_version.specs.Floors.{is_below, one_begins_after}
+use Rattle.edit_version.proofs.FloorLemmas.{later-not_after, none-after, plain-not_after}
 use Rattle.edit_upgrade.proofs.NotLess.{not-less}
 use Rattle.edit_upgrade.proofs.RaisedFloors.{admitted-rise}
 use Rattle.edit_upgrade.proofs.Narrowing.{latest-not-less}

@@ -22,9 +22,9 @@ use Rattle.edit_version.proofs.Outcomes.{admitted, reads-same, valid-version}
 use Rattle.edit_version.proofs.Shapes.{req-shape}
 use Rattle.edit_report.specs.declared.row.Change.TheVariants as change
 use Rattle.edit_upgrade.specs.Decision.{Case, compatible_text, decision, is_set_aside, is_too_low, latest_text, may_jump, newer, text_or, unless, some_if}
-use Rattle.edit_upgrade.specs.Floors.{HasFloor, IsFloor, is_below, is_end, one_begins_after, read_begins_after}
+use Rattle.edit_version.specs.Floors.{HasFloor, IsFloor, is_below, is_end, one_begins_after, read_begins_after}
 use Rattle.edit_upgrade.specs.declared.decision.options.Options.{Options}
-use Rattle.edit_upgrade.proofs.FloorLemmas.{Rises, all-rise, all-rise_accepted, begins-of, floor-below, later-not_after, none-after, not-after, or-left, some-floor}
+use Rattle.edit_version.proofs.FloorLemmas.{Rises, all-rise, all-rise_accepted, begins-of, floor-below, later-not_after, none-after, not-after, or-left, some-floor}
 use Rattle.edit_upgrade.proofs.TakenVersions.{compatible-taken, far-some, far_text, latest-taken, near-some, newer-latest, unless-some, some_if-some}
 
 -- the new text has a floor that is not lower, where the old one has one

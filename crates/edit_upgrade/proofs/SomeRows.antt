@@ -4,6 +4,7 @@ use Rattle.std.specs.List.{AllZip}
 use Rattle.std.proofs.lemmas.List.Elements.{All-nil}
 use Rattle.semver.specs.Parse.{Parts}
 use Rattle.edit_version.specs.Greatest.{IsGreatest, advance}
+use Rattle.edit_version.specs.Levels.{versions_within}
 use Rattle.edit_version.specs.Selection.{is_admitted, is_offered}
 use Rattle.edit_version.specs.VersionOrder.{full_order}
 use Rattle.edit_version.proofs.Greatests.{advanced}
@@ -50,7 +51,7 @@ some-line i o xs e old =
 some-row : (i : ℕ) (o : Options) (xs : List Parts) (e : RowEntry) (old : Option (List ℕ))
     → (line : Line) × IsRowOver i o xs e old line
 some-row i o xs e None = (dashes i o e, refl)
-some-row i o xs e (Some old) = some-line i o xs e old
+some-row i o xs e (Some old) = some-line i o (versions_within o.level old xs) e old
 
 -- an entry with another requirement takes the same versions
 pub other-versions : (b : Basis) (e f : RowEntry) (xs : List Parts) → f.name ≡ e.name → f.source ≡ e.source

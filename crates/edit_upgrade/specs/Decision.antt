@@ -11,7 +11,7 @@ use Rattle.edit_version.specs.Requirement.{UpgradeResult, Unread, Nothing, Unsup
 use Rattle.edit_version.specs.Requirement.{plain_text}
 use Rattle.edit_report.specs.declared.row.Change.{Change}
 use Rattle.edit_report.specs.declared.row.Change.TheVariants as change
-use Rattle.edit_upgrade.specs.Floors.{is_below}
+use Rattle.edit_version.specs.Floors.{is_below}
 use Rattle.edit_upgrade.specs.declared.decision.options.Options.{Options}
 use Rattle.edit_report.specs.declared.row.Reason.{Reason}
 use Rattle.edit_report.specs.declared.row.Reason.TheVariants as reason

@@ -4,8 +4,10 @@ use Rattle.std.specs.Prelude.{◌≡◌, ◌↔◌, ◌⊎◌, ℕ, List, [], �
 use Rattle.std.specs.Ordering.{is_ge}
 use Rattle.semver.specs.Parse.{Parts, req_of, version_parts}
 use Rattle.edit_version.specs.Laws.{Admits, precedence}
+use Rattle.edit_version.specs.Levels.{is_within}
+use Rattle.edit_version.specs.declared.levels.Level.{Level}
 use Rattle.edit_sources.specs.declared.config.Config.{Config}
-use Rattle.edit_upgrade.specs.Floors.{HasFloor}
+use Rattle.edit_version.specs.Floors.{HasFloor}
 use Rattle.edit_metadata.specs.Inputs.{path_of}
 use Rattle.edit_upgrade.specs.Inputs.{Setting, outputs_at}
 use Rattle.edit_upgrade.specs.Lines.{line_of}
@@ -69,6 +71,26 @@ KeepsFloor line = (line.change ≡ Some change.Latest) ⊎ (line.change ≡ Some
 -- with `never_lower`, no row has a lower floor after its change
 abbrev pub NeverLowers : Options → UpgradePlan → Type 0
 NeverLowers o p = IsTrue o.never_lower → All KeepsFloor (map line_of p.rows.items)
+
+-- there is a requirement, and the version is within this level of it
+abbrev pub IsWithinOf : Option Level → Option (List ℕ) → Parts → Type 0
+IsWithinOf level None v = ⊥
+IsWithinOf level (Some text) v = IsTrue (is_within level text v)
+
+-- where the change is Compatible, the compatible version is within this level of the old requirement, and
+-- where it is Latest, the latest one is; what is then within the level of the new requirement is within it of
+-- the old one, so that no later change leaves it either
+pub record StaysWithin (level : Option Level) (line : Line) : Type 0 where
+  pub compatible : line.change ≡ Some change.Compatible → (v : Parts) × IsTextOfVersion line.compatible v
+      × IsWithinOf level line.old v
+  pub latest : line.change ≡ Some change.Latest → (v : Parts) × IsTextOfVersion line.latest v
+      × IsWithinOf level line.old v
+  pub later : (line.change ≡ Some change.Latest) ⊎ (line.change ≡ Some change.Compatible)
+      → (w : Parts) → IsWithinOf level line.new w → IsWithinOf level line.old w
+
+-- no row leaves the level that the options set
+abbrev pub KeepsLevel : Options → UpgradePlan → Type 0
+KeepsLevel o p = All (StaysWithin o.level) (map line_of p.rows.items)
 
 -- a row without a change
 abbrev pub HasNoChange : Line → Type 0

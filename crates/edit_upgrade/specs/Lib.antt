@@ -23,7 +23,6 @@ pub mod OptionCauses
 pub mod Caches
 pub mod Plans
 pub mod Missing
-pub mod Floors
 pub mod Decision
 pub mod Offers
 pub mod Decided

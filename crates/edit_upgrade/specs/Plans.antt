@@ -4,7 +4,7 @@ use Rattle.std.specs.Global.{Vec}
 use Rattle.edit_metadata.specs.declared.input.Input.{Input}
 use Rattle.edit_sources.specs.declared.config.Config.{Config}
 use Rattle.edit_upgrade.specs.Caches.{CacheView}
-use Rattle.edit_upgrade.specs.Headline.{IsSettled, LatestIsNotLess, Narrows, NeedsAsBefore, NeverLowers, Reaches}
+use Rattle.edit_upgrade.specs.Headline.{IsSettled, KeepsLevel, LatestIsNotLess, Narrows, NeedsAsBefore, NeverLowers, Reaches}
 use Rattle.edit_upgrade.specs.Inputs.{EachInput, OutputsInOrder, RowsInOrder, WarningsInOrder}
 use Rattle.edit_upgrade.specs.Lines.{line_of}
 use Rattle.edit_upgrade.specs.Lists.{HasRowLists}
@@ -38,6 +38,7 @@ pub record IsPlan (o : Options) (inputs : List Input) (configs : List (Vec Confi
   pub reach : All Reaches (map line_of p.rows.items)
   pub latest : All LatestIsNotLess (map line_of p.rows.items)
   pub never_lower : NeverLowers o p
+  pub level : KeepsLevel o p
   pub fixed_point : EachInput o inputs configs IsSettled p
   pub needs : EachInput o inputs configs NeedsAsBefore p
   pub missing : ListsMissing o inputs p

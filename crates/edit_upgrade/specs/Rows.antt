@@ -5,6 +5,7 @@ use Rattle.edit_tree.specs.Assertions.{Place}
 use Rattle.semver.specs.Parse.{Parts}
 use Rattle.url.specs.Parts as url
 use Rattle.url.specs.Parts.{serialize}
+use Rattle.edit_version.specs.Levels.{versions_within}
 use Rattle.edit_version.specs.Requirement.{plain_text}
 use Rattle.edit_version.specs.Selection.{IsCompatible, IsLatest}
 use Rattle.edit_sources.specs.Configured.{HasAddress}
@@ -97,10 +98,11 @@ dashes i o e = record {
   change = None;
 }
 
--- the row of an entry with this requirement or none, over these versions
+-- the row of an entry with this requirement or none, over those of these versions that are within the level
+-- of the requirement that the options set
 abbrev pub IsRowOver : ℕ → Options → List Parts → RowEntry → Option (List ℕ) → Line → Type 0
 IsRowOver i o versions e None line = line ≡ dashes i o e
-IsRowOver i o versions e (Some old) line = IsDecided i o versions e old line
+IsRowOver i o versions e (Some old) line = IsDecided i o (versions_within o.level old versions) e old line
 
 -- the lookup that an entry needs: at its registry's address, for its name
 pub record Needs (configs : List Config) (e : RowEntry) (address : url.Parts) (name : List ℕ) : Type 0 where

@@ -1,7 +1,6 @@
 //! The decision for one entry of a manifest, from its requirement and the versions that may be taken.
 
 pub mod decide;
-pub mod floors;
 pub mod offers;
 pub mod options;
 pub mod requirement;

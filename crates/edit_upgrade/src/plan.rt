@@ -6,7 +6,7 @@ ghost use Rattle.edit_cache.specs.IndexCache.{index_of};
 ghost use Rattle.edit_upgrade.specs.Caches.{LeavesCache, StopsDocuments, StopsInputs, cache_view};
 ghost use Rattle.edit_upgrade.specs.ConfigLists.{AreIndices, HasLists, chosen_lists, lists_in};
 ghost use Rattle.edit_upgrade.specs.Drafts.{AreGiven, IsDraft};
-ghost use Rattle.edit_upgrade.specs.Headline.{IsSettled, LatestIsNotLess, Narrows, NeedsAsBefore, NeverLowers, Reaches};
+ghost use Rattle.edit_upgrade.specs.Headline.{IsSettled, KeepsLevel, LatestIsNotLess, Narrows, NeedsAsBefore, NeverLowers, Reaches};
 ghost use Rattle.edit_metadata.specs.Inputs.{HaveOwnPaths};
 ghost use Rattle.edit_upgrade.specs.Inputs.{EachInput, OutputsInOrder, RowsInOrder, WarningsInOrder};
 ghost use Rattle.edit_upgrade.specs.Lines.{line_of};
@@ -223,6 +223,8 @@ pub fn plan_upgrade<I: Index>(
     ensures latest { IfOk result (λ p. All LatestIsNotLess (map line_of p.rows.items)) }
     // with `never_lower`, no change to a latest or compatible version lowers the floor of a requirement
     ensures never_lower { IfOk result (NeverLowers options.now) }
+    // no change to a latest or compatible version leaves the level of the options, nor does one after it
+    ensures level { IfOk result (KeepsLevel options.now) }
     // unless `--package` gives a requirement: planning the outputs again over the same lookups changes no
     // byte
     ensures fixed_point { IfOk result (EachInput options.now inputs.now configs.now IsSettled) }

@@ -2,6 +2,7 @@
 ghost use Rattle.std.specs.Prelude.{◌≡◌, IfErr, IfOk, Option, map, option_copied, option_map, string_bytes};
 ghost use Rattle.edit_base.specs.Errors.{IsMemory};
 ghost use Rattle.edit_version.specs.Candidates.{numbers_in, parts_in};
+ghost use Rattle.edit_version.specs.Levels.{versions_within};
 ghost use Rattle.edit_version.specs.ReadRequirement.{text_in};
 ghost use Rattle.edit_version.specs.Requirement.{plain_text};
 ghost use Rattle.edit_version.specs.Selection.{IsCompatible, IsLatest};
@@ -27,7 +28,7 @@ use edit_metadata::Input;
 use edit_record::Requirement;
 use edit_report::{Reason, Row};
 use edit_sources::index::Index;
-use edit_version::RustVersion;
+use edit_version::{Level, RustVersion};
 use semver::Version;
 use std::alloc::{AllocError, Global};
 use url::Url;
@@ -41,21 +42,26 @@ pub(crate) struct Job<'a> {
     pub(crate) parsed: ParsedOptions<'a>,
 }
 
-/// The greatest version that a requirement admits, and the latest version. Pre-releases are considered
-/// where the requirement contains a `-`. `None` where the index has no such version.
+/// The greatest version that a requirement admits, and the latest version, of those within a level of the
+/// requirement. Pre-releases are considered where the requirement contains a `-`. `None` where the index has
+/// no such version.
 fn version_pair<'a>(
     ranked: Option<&'a Ranked>,
     old: &Requirement<'_>,
     rust_version: Option<RustVersion>,
+    level: Option<Level>,
 ) -> VersionPair<'a>
     ensures compatible { (answer : Option Answer) → IsRankingOf answer (option_copied ranked.entry)
-        → IsCompatible (text_in old.now) (versions_in (numbers_in rust_version) answer)
+        → IsCompatible (text_in old.now)
+        (versions_within level (text_in old.now) (versions_in (numbers_in rust_version) answer))
         (parts_in result.compatible) }
     ensures latest { (answer : Option Answer) → IsRankingOf answer (option_copied ranked.entry)
-        → IsLatest (text_in old.now) (versions_in (numbers_in rust_version) answer) (parts_in result.latest) }
+        → IsLatest (text_in old.now)
+        (versions_within level (text_in old.now) (versions_in (numbers_in rust_version) answer))
+        (parts_in result.latest) }
 {
     match ranked {
-        Some(ranked) => ranked.version_pair(old, rust_version),
+        Some(ranked) => ranked.version_pair(old, rust_version, level),
         None => VersionPair {
             compatible: None,
             latest: None,
@@ -155,11 +161,17 @@ fn row_with(
 ) -> CargoResult<Row>
     ensures ok { IfOk result (λ r. (answer : Option Answer) → IsRankingOf answer (option_copied ranked.entry)
         → IsDecided job.entry.number job.entry.parsed.options.now
-        (versions_in (numbers_in job.entry.input.now.rust_version) answer)
+        (versions_within job.entry.parsed.options.now.level (text_in old.now)
+        (versions_in (numbers_in job.entry.input.now.rust_version) answer))
         (row_entry_view entry.now) (text_in old.now) (line_of r)) }
     ensures error { IfErr result IsMemory }
 {
-    let pair = version_pair(ranked, old, job.input.rust_version);
+    let pair = version_pair(
+        ranked,
+        old,
+        job.input.rust_version,
+        job.parsed.options.level,
+    );
     let row = row_over(alloc, job, entry, old, pair.compatible, pair.latest)?;
     Ok(row)
 }
@@ -231,8 +243,9 @@ fn cached_requirement_row<I: Index>(
     index: &mut IndexCache<I>,
 ) -> CargoResult<Row>
     ensures ok { IfOk result (λ r. IsDecided job.entry.number job.entry.parsed.options.now
+        (versions_within job.entry.parsed.options.now.level old.now
         (versions_in (numbers_in job.entry.input.now.rust_version)
-        (cached_by index.new (serialize registry.now) (row_entry_view entry.now).name))
+        (cached_by index.new (serialize registry.now) (row_entry_view entry.now).name)))
         (row_entry_view entry.now) old.now (line_of r)) }
     ensures index { index_of index.new ≡ index_of index.old }
     ensures preserved { cached_by index.new ≡ cached_by index.old }
@@ -240,7 +253,14 @@ fn cached_requirement_row<I: Index>(
 {
     let name = entry.name.as_str();
     let old = Requirement::read(alloc, old)?;
-    index.rank_for(alloc, registry, name, &old, job.input.rust_version)?;
+    index.rank_for(
+        alloc,
+        registry,
+        name,
+        &old,
+        job.input.rust_version,
+        job.parsed.options.level,
+    )?;
     let ranked = index.cached_ranking(registry, name);
     row_with(alloc, job, entry, &old, ranked)
 }

@@ -24,6 +24,13 @@ pub mod Builds
 pub mod Lands
 pub mod QualifyingEntries
 pub mod GreatestEntries
+-- Floors and levels
+pub mod Readable
+pub mod LowerLemmas
+pub mod FloorLemmas
+pub mod FloorReadings
+pub mod FilteredGreatests
+pub mod LevelLaws
 -- Increments and crate specifications
 pub mod Steps
 mod JoinedTexts

@@ -15,3 +15,5 @@ pub mod Admissible
 pub mod Candidates
 pub mod ReadRequirement
 pub mod ReadVersion
+pub mod Floors
+pub mod Levels

@@ -5,6 +5,8 @@
 pub mod candidates;
 pub mod crate_spec;
 pub mod fetch;
+pub mod floors;
+pub mod levels;
 pub mod requirement;
 mod requirement_text;
 pub mod rust_version;
@@ -13,6 +15,7 @@ pub mod version;
 pub use candidates::{Candidate, greatest_entry, is_for, is_selectable, read_candidate};
 pub use crate_spec::CrateSpec;
 pub use fetch::IndexVersion;
+pub use levels::{Bound, Level};
 pub use requirement::{
     Requirement, admits, allows_prerelease, cut, read_requirement, upgrade_requirement,
 };

@@ -43,12 +43,21 @@ switches =
     ∷ flag_rule (codes "to-lockfile")
     ∷ []
 
+-- the options that say by when versions have to be published
+abbrev pub ages : List Rule
+ages =
+    choice_rule (codes "published-before")
+    ∷ choice_rule (codes "min-age")
+    ∷ choice_rule (codes "now")
+    ∷ []
+
 -- the options that say what may be upgraded, two of them ignored where they are not given
 abbrev pub choices : List Rule
 choices =
     record (choice_rule (codes "compatible")) { defaults = codes "allow" ∷ [] }
     ∷ record (choice_rule (codes "incompatible")) { short = Some 105; defaults = codes "ignore" ∷ [] }
     ∷ record (choice_rule (codes "pinned")) { defaults = codes "ignore" ∷ [] }
+    ∷ choice_rule (codes "level")
     ∷ record (choice_rule (codes "recursive")) { parser = Some value.Bool }
     ∷ []
 
@@ -56,7 +65,8 @@ choices =
 abbrev pub upgrade_app : Text → App
 upgrade_app name =
     with_rules (with_rules (with_rules (with_rules (with_rules (with_rules (with_rules (with_rules
-    (new_app name) places) outlets) configurations) rust_choices) switches) reports) choices) selections
+    (with_rules (new_app name) places) outlets) configurations) rust_choices) switches) ages) reports)
+    choices) selections
 
 -- the program's own settings
 abbrev pub top_shape : Shape

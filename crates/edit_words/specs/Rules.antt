@@ -65,4 +65,5 @@ reports =
     flag_rule (codes "check")
     ∷ record (choice_rule (codes "message-format")) { defaults = codes "human" ∷ [] }
     ∷ flag_rule (codes "diff")
+    ∷ choice_rule (codes "color")
     ∷ []

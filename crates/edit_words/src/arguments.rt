@@ -1,7 +1,7 @@
 //! The arguments of each subcommand.
 ghost use Rattle.std.specs.Prelude.{◌≡◌, ◌++◌, IfOk, map, true};
 ghost use Rattle.clap.specs.Words.{app_of, is_simple, is_simple_and_free};
-ghost use Rattle.edit_words.specs.CommandLine.{choices, configurations, edit_app, outlets, places, rust_choices, selections, switches, upgrade_app};
+ghost use Rattle.edit_words.specs.CommandLine.{ages, choices, configurations, edit_app, outlets, places, rust_choices, selections, switches, upgrade_app};
 ghost use Rattle.edit_words.specs.Tables.{IsLocal, arg_rule};
 
 use crate::reports::reports;
@@ -104,8 +104,31 @@ fn switches<'a>() -> [ArgSpec<'a>; 9]
     ]
 }
 
+/// The options that say by when versions have to be published.
+fn ages<'a>() -> [ArgSpec<'a>; 3]
+    ensures { map arg_rule result ≡ ages }
+{
+    [
+        plain(
+            "published-before",
+            Form::Choice("TIME"),
+            "Raise only to versions published by this time, as 2026-05-01T12:00:00Z",
+        ),
+        plain(
+            "min-age",
+            Form::Choice("DAYS"),
+            "Raise only to versions that are at least this many days old",
+        ),
+        plain(
+            "now",
+            Form::Choice("TIME"),
+            "The time from which `--min-age` counts back",
+        ),
+    ]
+}
+
 /// The options that say what may be upgraded.
-fn choices<'a>() -> [ArgSpec<'a>; 4]
+fn choices<'a>() -> [ArgSpec<'a>; 5]
     ensures { map arg_rule result ≡ choices }
 {
     [
@@ -128,6 +151,11 @@ fn choices<'a>() -> [ArgSpec<'a>; 4]
             "Upgrades pinned requirements to the latest version",
         )
         .default_value("ignore"),
+        plain(
+            "level",
+            Form::Choice("patch|minor|major"),
+            "Upgrades only within this level of the old requirement",
+        ),
         plain(
             "recursive",
             Form::Truth("true|false"),
@@ -156,7 +184,7 @@ fn selections<'a>() -> [ArgSpec<'a>; 2]
 }
 
 /// What help says of the formats of an upgrade's report.
-const FORMATS: &str = "How the report is printed [possible values: human, json, markdown]";
+const FORMATS: &str = "How the report is printed [possible values: human, json, markdown, github]";
 
 /// A subcommand with the arguments of `upgrade`.
 fn upgrade_command<'a>(
@@ -170,6 +198,7 @@ fn upgrade_command<'a>(
     let command = with_args(alloc, command, &files());
     let command = with_args(alloc, command, &configurations());
     let command = with_args(alloc, command, &switches());
+    let command = with_args(alloc, command, &ages());
     let command = with_args(alloc, command, &reports("FORMAT", FORMATS));
     let command = with_args(alloc, command, &choices());
     with_args(alloc, command, &selections())

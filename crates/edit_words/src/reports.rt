@@ -7,7 +7,7 @@ use crate::rules::{ArgSpec, Form, plain};
 
 /// What says how a plan is printed, and whether it is only checked; with what help calls the value of
 /// `--message-format`, and what it says of it.
-pub(crate) fn reports<'a>(value: &'a str, about: &'a str) -> [ArgSpec<'a>; 3]
+pub(crate) fn reports<'a>(value: &'a str, about: &'a str) -> [ArgSpec<'a>; 4]
     ensures { map arg_rule result ≡ reports }
 {
     [
@@ -21,6 +21,11 @@ pub(crate) fn reports<'a>(value: &'a str, about: &'a str) -> [ArgSpec<'a>; 3]
             "diff",
             Form::Flag,
             "Prints the changes of manifests as diffs",
+        ),
+        plain(
+            "color",
+            Form::Choice("auto|always|never"),
+            "When reports are colored",
         ),
     ]
 }

@@ -8,13 +8,14 @@ ghost use Rattle.edit_cache.specs.CachedAnswer.{IsRankedAt};
 use crate::cache::IndexCache;
 use edit_base::errors::CargoResult;
 use edit_sources::index::Index;
-use edit_version::{Requirement, RustVersion};
+use edit_version::{Level, Requirement, RustVersion};
 use std::alloc::Global;
 use url::Url;
 
 impl<I: Index> IndexCache<I> {
     /// Ranks the cached result for a crate, once, as `rank_cached` does, and caches the choice for a
-    /// requirement and a Rust version: `Ranked::version_pair` then finds it by the text of the requirement.
+    /// requirement, a Rust version and a level: `Ranked::version_pair` then finds it by the text of the
+    /// requirement.
     pub fn rank_for(
         &mut self,
         alloc: Global,
@@ -22,6 +23,7 @@ impl<I: Index> IndexCache<I> {
         name: &str,
         old: &Requirement<'_>,
         rust_version: Option<RustVersion>,
+        level: Option<Level>,
     ) -> CargoResult<()>
         ensures index { index_of self.new ≡ index_of self.old }
         ensures preserved { HasSameCache self.old self.new }
@@ -29,7 +31,7 @@ impl<I: Index> IndexCache<I> {
             (ranking_at self.new (serialize registry.now) name.now)) }
         ensures error { IfErr result IsMemory }
     {
-        self.rank_for_at(alloc, registry.as_str(), name, old, rust_version)
+        self.rank_for_at(alloc, registry.as_str(), name, old, rust_version, level)
     }
 
     /// `rank_for`, with the address as text.
@@ -40,6 +42,7 @@ impl<I: Index> IndexCache<I> {
         name: &str,
         old: &Requirement<'_>,
         rust_version: Option<RustVersion>,
+        level: Option<Level>,
     ) -> CargoResult<()>
         ensures index { self.new.index ≡ self.old.index }
         ensures preserved { HasSameCache self.old self.new }
@@ -48,7 +51,7 @@ impl<I: Index> IndexCache<I> {
         ensures error { IfErr result IsMemory }
     {
         match self.answers.get_mut(address) {
-            Some(names) => names.rank_for(alloc, name, old, rust_version),
+            Some(names) => names.rank_for(alloc, name, old, rust_version, level),
             None => Ok(()),
         }
     }

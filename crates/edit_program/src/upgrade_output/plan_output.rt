@@ -13,30 +13,31 @@ use crate::upgrade_output::task::DeliveryTask;
 use edit_base::CargoResult;
 use edit_metadata::Input;
 use edit_report::Output;
-use edit_shown::{MessageFormat, print_diffs, print_markdown, print_messages};
-use edit_upgrade::{Options, UpgradePlan};
+use edit_shown::{MessageFormat, print_annotations, print_diffs, print_markdown, print_messages};
 use std::alloc::Global;
 use std::io;
 
-/// Prints a plan as JSON or as one table of Markdown, where that is requested.
+/// Prints a plan as JSON, as one table of Markdown, or as annotations, where that is requested.
 fn print_as<O: io::Write>(
     alloc: Global,
-    format: MessageFormat,
-    plan: &UpgradePlan,
-    inputs: &[Input],
-    options: &Options,
+    task: &DeliveryTask<'_>,
     calls: &[Vec<String>],
     out: &mut O,
 ) -> CargoResult<()>
     ensures text { OnOk result (Appends (O.contents out.old) (O.contents out.new)
-        (messages_as format plan.now inputs.now options.now (calls_view calls.now))) }
+        (messages_as task.now.presentation.format task.now.plan.now task.now.inputs.now task.now.root.now
+        task.now.options.now (calls_view calls.now))) }
     ensures error { IfErr result (λ e. IsMemory e ⊎ (e ≡ Unwritten)) }
 {
-    match format {
+    let (plan, inputs, options) = (task.plan, task.inputs, task.options);
+    match task.presentation.format {
         MessageFormat::Human => Ok(()),
         MessageFormat::Json => print_messages(alloc, plan, inputs, options, calls, out),
         MessageFormat::Markdown => {
             print_markdown(alloc, plan.rows.as_slice(), options.verbosity, inputs, out)
+        }
+        MessageFormat::Github => {
+            print_annotations(alloc, task.root, inputs, plan.rows.as_slice(), out)
         }
     }
 }
@@ -61,8 +62,8 @@ fn print_diffs_if<O: io::Write>(
     }
 }
 
-/// Prints a plan: the report on each input, the plan as JSON or as one table, and the diffs of manifests, as
-/// requested.
+/// Prints a plan: the report on each input, the plan in another format than tables, and the diffs of
+/// manifests, as requested.
 pub(crate) fn print_plan<O: io::Write, E: io::Write>(
     alloc: Global,
     task: &DeliveryTask<'_>,
@@ -76,7 +77,7 @@ pub(crate) fn print_plan<O: io::Write, E: io::Write>(
         (tables task.now.presentation.format task.now.options.now.verbosity task.now.plan.now.rows.items
         (length task.now.inputs.now)
         ++ (messages_as task.now.presentation.format task.now.plan.now task.now.inputs.now
-        task.now.options.now (calls_view calls.now)
+        task.now.root.now task.now.options.now (calls_view calls.now)
         ++ diffs_if task.now.presentation.diff task.now.root.now task.now.inputs.now
         task.now.plan.now.outputs.items))) }
     ensures checks { OnOk result (Appends (E.contents err.old) (E.contents err.new)
@@ -84,9 +85,9 @@ pub(crate) fn print_plan<O: io::Write, E: io::Write>(
         (length task.now.inputs.now))) }
     ensures error { IfErr result (λ e. IsMemory e ⊎ (e ≡ Unwritten)) }
 {
-    let (plan, inputs, options) = (task.plan, task.inputs, task.options);
+    let (plan, inputs, verbosity) = (task.plan, task.inputs, task.options.verbosity);
     let (format, diff) = (task.presentation.format, task.presentation.diff);
-    print_reports(alloc, plan, inputs, options.verbosity, format, out, err)?;
-    print_as(alloc, format, plan, inputs, options, calls, out)?;
+    print_reports(alloc, plan, inputs, verbosity, format, out, err)?;
+    print_as(alloc, task, calls, out)?;
     print_diffs_if(alloc, diff, task.root, inputs, plan.outputs.as_slice(), out)
 }

@@ -88,7 +88,7 @@ fn print_rows<O: io::Write>(
     write_table(alloc, rows_at(rows, input), verbosity, out)
 }
 
-/// Prints the table of the rows of an input, unless the plan is printed as JSON, or as one table.
+/// Prints the table of the rows of an input, where the plan is printed in tables for people.
 fn print_table<O: io::Write>(
     alloc: Global,
     format: MessageFormat,
@@ -104,7 +104,7 @@ fn print_table<O: io::Write>(
 {
     match format {
         MessageFormat::Human => print_rows(alloc, rows, input, verbosity, out),
-        MessageFormat::Json | MessageFormat::Markdown => Ok(()),
+        MessageFormat::Json | MessageFormat::Markdown | MessageFormat::Github => Ok(()),
     }
 }
 

@@ -9,6 +9,7 @@ ghost use Rattle.edit_steps.specs.Sources.{AreDocuments};
 ghost use Rattle.edit_program.specs.Counted.{CountsIndexFault, CountsStoreFault};
 ghost use Rattle.edit_program.specs.Planned.{IsPlanCause, IsPlanned, index_view, restriction};
 
+use crate::upgrade_run::upgrade_args::UpgradeArgs;
 use edit_base::CargoResult;
 use edit_cache::IndexCache;
 use edit_lock::{Lock, LockedPackage};
@@ -76,10 +77,11 @@ pub(crate) fn plan_over<I: Index + Drop>(
 }
 
 /// The plan for manifests over the lines of an index file, over an index folder, or over the index in
-/// `index_files`, each restricted to packages of a lock file where they are given.
+/// `index_files`, each restricted to packages of a lock file where they are given. The last two leave out
+/// versions that were not published by the arguments' bound, where there is one.
 pub(crate) fn plan_for<T: Store + Drop>(
     alloc: Global,
-    options: &Options,
+    args: &UpgradeArgs<'_>,
     target: &Target,
     configs: &SharedConfigs,
     locked: Option<&[LockedPackage]>,
@@ -90,15 +92,17 @@ pub(crate) fn plan_for<T: Store + Drop>(
     requires each { length configs.now.which.items ≡ length target.now.inputs.items }
     requires lists { HasLists configs.now }
     requires documents { AreDocuments target.now.documents.items target.now.inputs.items }
-    ensures planned { IfOk result (IsPlanned options.now target.now.inputs.items (lists_for configs.now)
+    ensures planned { IfOk result (IsPlanned args.now.options target.now.inputs.items (lists_for configs.now)
         (locked_view (option_map (λ ps. map locked_package_view ps.now) locked.entry)
-        (index_view index (T.view index_files)))) }
+        (index_view args.now.published_before index (T.view index_files)))) }
     ensures error { IfErr result (λ e. IsMemory e
-        ⊎ IsPlanCause options.now target.now.inputs.items (lists_for configs.now)
+        ⊎ IsPlanCause args.now.options target.now.inputs.items (lists_for configs.now)
         (locked_view (option_map (λ ps. map locked_package_view ps.now) locked.entry)
-        (index_view index (T.view index_files))) e) }
+        (index_view args.now.published_before index (T.view index_files))) e) }
     ensures counted { IfErr result (CountsStoreFault T.view index_files) }
 {
+    let options = &args.options;
+    let bound = args.published_before;
     match index {
         IndexSource::Files => plan_over(
             alloc,
@@ -106,7 +110,7 @@ pub(crate) fn plan_for<T: Store + Drop>(
             target,
             configs,
             locked,
-            LocalIndex::new(index_files),
+            LocalIndex::with_bound(index_files, bound),
         ),
         IndexSource::Lines(index) => plan_over(alloc, options, target, configs, locked, index),
         IndexSource::Folder(folder) => plan_over(
@@ -115,7 +119,7 @@ pub(crate) fn plan_for<T: Store + Drop>(
             target,
             configs,
             locked,
-            DirIndex::new(index_files, folder),
+            DirIndex::with_bound(index_files, folder, bound),
         ),
     }
 }

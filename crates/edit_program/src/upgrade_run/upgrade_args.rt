@@ -4,6 +4,7 @@ ghost use Rattle.edit_steps.specs.RequestView.{request_view};
 ghost use Rattle.edit_program.specs.Planned.{to_request, to_lookup_request};
 
 use edit_shown::Presentation;
+use edit_sources::PublishedBefore;
 use edit_steps::upgrade_read::{RustChoice, SourceRequest};
 use edit_upgrade::Options;
 
@@ -34,6 +35,8 @@ pub struct UpgradeArgs<'a> {
     /// Raise requirements only to versions that the lock file has, which must exist; nothing is raised where
     /// no lock file is given.
     pub to_lockfile: bool,
+    /// The time by which versions have to be published, where there is one.
+    pub published_before: Option<PublishedBefore>,
 }
 
 impl<'a> UpgradeArgs<'a> {
@@ -46,6 +49,7 @@ impl<'a> UpgradeArgs<'a> {
             metadata_json: self.metadata_json,
             index_file: self.index_file,
             index_dir: self.index_dir,
+            published_before: self.published_before,
             config: self.config,
             default_config: self.default_config,
             rust: self.rust,

@@ -62,18 +62,9 @@ pub fn upgrade<S: Store, T: Store + Drop, O: io::Write, E: io::Write>(
         configs,
         index,
     } = sources;
-    let options = &args.options;
     let lock = lock.as_ref();
     let locked = restriction(args.to_lockfile, lock);
-    let plan = match plan_for(
-        alloc,
-        options,
-        &target,
-        &configs,
-        locked,
-        index,
-        index_files,
-    ) {
+    let plan = match plan_for(alloc, args, &target, &configs, locked, index, index_files) {
         Ok(plan) => plan,
         Err(error) => {
             let request = args.to_request();

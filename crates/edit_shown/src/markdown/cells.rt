@@ -49,7 +49,7 @@ fn requirement_cell(alloc: Global, text: &Option<String>) -> Result<String, Allo
 }
 
 /// Which version a new requirement was made from; empty where nothing changes.
-fn change_text(change: Option<Change>) -> &'static str
+pub(crate) fn change_text(change: Option<Change>) -> &'static str
     ensures { result.now ≡ spec.change_text change }
 {
     match change {

@@ -10,7 +10,7 @@ ghost use Rattle.edit_steps.specs.Sources.{IsIndexAt, IsIndexOf};
 
 use crate::{RunResult, absolute_path, at_file, at_path};
 use edit_base::Error;
-use edit_sources::FileIndex;
+use edit_sources::{FileIndex, PublishedBefore};
 use edit_store::Store;
 use std::alloc::Global;
 
@@ -25,16 +25,17 @@ pub enum IndexSource {
     Folder(String),
 }
 
-/// Reads the given index file.
+/// Reads the given index file, without the versions that were not published by the bound, where there is one.
 fn read_file<S: Store>(
     alloc: Global,
     named: &str,
+    bound: Option<PublishedBefore>,
     current: &str,
     files: &mut S,
 ) -> RunResult<FileIndex>
     ensures store { OnlyReads (S.view files.old) (S.view files.new) }
     ensures read { IfOk result (λ i. (S.view files.old).tells ≡ true
-        → IsIndexAt (S.view files.old).file_at current.now named.now i) }
+        → IsIndexAt bound (S.view files.old).file_at current.now named.now i) }
     ensures error { IfErr result (λ r. IsCallError call.Read (S.view files.old) (S.view files.new) r.error
         ⊎ ((S.view files.old).tells ≡ true
         → IsIndexCause (S.view files.old).file_at current.now named.now r.error)) }
@@ -49,24 +50,26 @@ fn read_file<S: Store>(
         Ok(None) => return Err(at_path(alloc, Error::NoPath, path.as_str())),
         Err(error) => return Err(at_file(alloc, error, path.as_str(), files.reason(alloc))),
     };
-    match FileIndex::read(alloc, &lines) {
+    match FileIndex::with_bound(alloc, &lines, bound) {
         Ok(index) => Ok(index),
         Err(error) => Err(at_path(alloc, error, path.as_str())),
     }
 }
 
 /// The index to query: a given index file, else a given folder, by its absolute, normalized path, else the
-/// index in files. Nothing is read from a folder yet.
+/// index in files. An index file is read without the versions that were not published by the bound, where
+/// there is one; nothing is read from a folder yet.
 pub(crate) fn read_index<S: Store>(
     alloc: Global,
     file: Option<&str>,
     dir: Option<&str>,
+    bound: Option<PublishedBefore>,
     current: &str,
     files: &mut S,
 ) -> RunResult<IndexSource>
     ensures store { OnlyReads (S.view files.old) (S.view files.new) }
     ensures read { IfOk result (λ i. (S.view files.old).tells ≡ true
-        → IsIndexOf (S.view files.old).file_at current.now (given file.entry) (given dir.entry) i) }
+        → IsIndexOf bound (S.view files.old).file_at current.now (given file.entry) (given dir.entry) i) }
     ensures error { IfErr result (λ r. IsCallError call.Read (S.view files.old) (S.view files.new) r.error
         ⊎ ((S.view files.old).tells ≡ true
         → HasNoIndex (S.view files.old).file_at current.now (given file.entry) r.error)) }
@@ -76,7 +79,7 @@ pub(crate) fn read_index<S: Store>(
         ⊎ IsIndexError (given file.entry) r.error) }
 {
     if let Some(named) = file {
-        let index = read_file(alloc, named, current, files)?;
+        let index = read_file(alloc, named, bound, current, files)?;
         return Ok(IndexSource::Lines(index));
     }
     let Some(named) = dir else {

@@ -3,6 +3,7 @@ ghost use Rattle.std.specs.Prelude.{◌≡◌, option_map};
 ghost use Rattle.edit_steps.specs.RequestView.{rust_request};
 ghost use Rattle.edit_version.specs.RustVersions.{numbers_of};
 
+use edit_sources::PublishedBefore;
 use edit_version::RustVersion;
 
 /// The Rust version to plan for.
@@ -49,6 +50,8 @@ pub struct SourceRequest<'a> {
     pub index_file: Option<&'a str>,
     /// A folder with a folder for each registry. Ignored where an index file is given.
     pub index_dir: Option<&'a str>,
+    /// The time by which versions in the index file have to be published, where there is one.
+    pub published_before: Option<PublishedBefore>,
     /// A configuration file with the highest precedence.
     pub config: Option<&'a str>,
     /// A configuration file with the lowest precedence.

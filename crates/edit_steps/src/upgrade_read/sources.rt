@@ -54,7 +54,14 @@ pub fn read_sources<S: Store>(
     let target = read_target(alloc, request, current, files)?;
     let named = read_named(alloc, request, current, files)?;
     let configs = read_configurations(alloc, &named, &target.inputs, cargo_home, files)?;
-    let index = read_index(alloc, request.index_file, request.index_dir, current, files)?;
+    let index = read_index(
+        alloc,
+        request.index_file,
+        request.index_dir,
+        request.published_before,
+        current,
+        files,
+    )?;
     Ok(Sources {
         target,
         configs,

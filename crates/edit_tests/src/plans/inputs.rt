@@ -36,6 +36,7 @@ fn default_options(alloc: Global) -> Options {
         incompatible: false,
         pinned: false,
         never_lower: false,
+        level: None,
         package: Vec::new(alloc),
         exclude: Vec::new(alloc),
         dry_run: false,

@@ -48,6 +48,7 @@ fn options_of(rt: &impl Abort, alloc: Global, flags: &str, arg: &str) -> Options
         recursive: None,
         verbosity: 0,
         never_lower: false,
+        level: None,
     }
 }
 

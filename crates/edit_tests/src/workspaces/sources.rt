@@ -108,6 +108,7 @@ fn request_of_row<'a>(
         metadata_json: nth(target, 1),
         index_file: nth(more, 0),
         index_dir: nth(more, 2),
+        published_before: None,
         config: nth(more, 3),
         default_config: nth(more, 4),
         rust: choice(rt, alloc, nth(more, 1)),

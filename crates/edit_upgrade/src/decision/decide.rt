@@ -9,13 +9,13 @@ ghost use Rattle.edit_version.specs.ReadRequirement.{text_in};
 ghost use Rattle.edit_version.specs.Requirement.{plain_text, upgrade_of};
 ghost use Rattle.semver.specs.Identifiers.{parts_of};
 
-use crate::decision::floors::is_below;
 use crate::decision::offers::Offer;
 use crate::decision::options::Options;
 use crate::decision::requirement::{PinStatus, requirement_pin};
 use edit_base::{CargoResult, Error};
 use edit_report::{Change, Reason};
 use edit_version::Requirement;
+use edit_version::floors::is_below;
 use semver::Version;
 use std::alloc::{AllocError, Global};
 

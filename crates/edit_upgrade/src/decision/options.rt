@@ -1,5 +1,7 @@
 //! The options of an upgrade.
 
+use edit_version::Level;
+
 /// The options of an upgrade.
 #[derive(Debug, Drop)]
 pub struct Options {
@@ -12,6 +14,8 @@ pub struct Options {
     /// Never take a latest version below the floor of the requirement: the greatest version that one of its
     /// comparators other than `<` and `<=` names.
     pub never_lower: bool,
+    /// Take only versions that are within this level of the old requirement.
+    pub level: Option<Level>,
     pub package: Vec<String>,
     pub exclude: Vec<String>,
     pub dry_run: bool,

@@ -1,6 +1,7 @@
-use Rattle.std.proofs.Common.{Bool, Option, codes, inl, inr, refl, rules, subst}
+use Rattle.std.proofs.Common.{Bool, Option, Some, ap, codes, inl, inr, refl, rules, subst, sym, ◌∙◌}
 use Rattle.clap.specs.Words.{Text, first_of, found_of, rows_of}
 use Rattle.edit_program.specs.ParsedUpgrade.{HasNoRust, IsRust}
+use Rattle.edit_version.specs.declared.levels.Level.{Level}
 use Rattle.edit_program.proofs.ArgsLemmas.{err_same, option_text_is}
 use Rattle.edit_program.proofs.upgrade_parser.parse_upgrade_args.Goals as goal
 
@@ -20,15 +21,27 @@ returns-in_err-presentation-clause-error c =
     c.from_residual-in_err-presentation.ensures.1 (λ other.
     inr (inr (inr (inl c.in_err-presentation.ensures.error))))
 
+pub returns-in_err-level-clause-error : goal.returns-in_err-level-clause-error
+returns-in_err-level-clause-error c =
+    err_same c.from_residual-in_err-level.result c.in_err-level.field-0.0 _
+    c.from_residual-in_err-level.ensures.1 (λ other.
+    inr (inr (inr (inr (inl c.in_err-level.ensures.error)))))
+
+pub returns-in_err-published_before-clause-error : goal.returns-in_err-published_before-clause-error
+returns-in_err-published_before-clause-error c =
+    err_same c.from_residual-in_err-published_before.result c.in_err-published_before.field-0.0 _
+    c.from_residual-in_err-published_before.ensures.1 (λ other.
+    inr (inr (inr (inr (inr (inr c.in_err-published_before.ensures.error))))))
+
 pub returns-in_err-to_lockfile-clause-error : goal.returns-in_err-to_lockfile-clause-error
 returns-in_err-to_lockfile-clause-error c =
     err_same c.from_residual-in_err-to_lockfile.result c.in_err-to_lockfile.field-0.0 _
     c.from_residual-in_err-to_lockfile.ensures.1 (λ other.
-    inr (inr (inr (inr (record {
+    inr (inr (inr (inr (inr (inl (record {
       incompatible = c.in_ok-options.options.incompatible;
       status = c.in_ok-options.ensures.options.incompatible;
       fault = c.in_err-to_lockfile.ensures.error;
-    })))))
+    })))))))
 
 pub returns-clause-asks : goal.returns-clause-asks
 returns-clause-asks c =
@@ -48,10 +61,13 @@ returns-clause-asks c =
           (subst (λ (a : Option Text). IsRust a c.is_given-ignored.result c.in_ok-rust.rust) named
           c.in_ok-rust.ensures.ok);
       options = c.in_ok-options.ensures.options;
+      level = c.in_ok-level.ensures.ok
+          ∙ ap (λ (l : Option Level). Some l) (sym c.in_ok-options.ensures.level);
       presentation = c.in_ok-presentation.ensures.ok;
       calls = option_text_is c.args.matches.now (codes "update-calls") c.get_str-8.result _ refl c.get_str-8.ensures;
       lock = option_text_is c.args.matches.now (codes "lock-file") c.get_str-9.result _ refl c.get_str-9.ensures;
       offline = search rules;
       to_lockfile = c.in_ok-to_lockfile.ensures.given;
       usable = c.in_ok-to_lockfile.ensures.usable;
+      bound = c.in_ok-published_before.ensures.ok;
     }

@@ -1,6 +1,7 @@
 use Rattle.std.proofs.Common.{List, ℕ, Option, ap, subst, sym}
 use Rattle.std.specs.Prelude.{option_copied, option_map}
 use Rattle.std.proofs.lemmas.Result.{IfOk-weaker}
+use Rattle.edit_version.specs.Levels.{versions_within}
 use Rattle.edit_version.specs.ReadRequirement.{text_in}
 use Rattle.edit_version.specs.RustVersions.{numbers_of}
 use Rattle.edit_cache.specs.IndexCache.{cached_answer_at, ranking_at}
@@ -30,9 +31,11 @@ returns-clause-ok g c =
     (ranking_at index address name) c.in_ok-rank_for.ensures.ranked) in
     let named = ap (λ (n : List ℕ). cached_by index address n) c.as_str-name.ensures.value in
     IfOk-weaker _ _ _ (λ r h.
-    subst (λ (t : List ℕ). IsDecided input options (versions_in rust (cached_by index address e.name)) e t (line_of r))
+    subst (λ (t : List ℕ). IsDecided input options
+    (versions_within options.level t (versions_in rust (cached_by index address e.name))) e t (line_of r))
     c.in_ok-old.ensures.text
-    (subst (λ (a : Option Answer). IsDecided input options (versions_in rust a) e (text_in c.in_ok-old.old)
+    (subst (λ (a : Option Answer). IsDecided input options
+    (versions_within options.level (text_in c.in_ok-old.old) (versions_in rust a)) e (text_in c.in_ok-old.old)
     (line_of r)) named (h answer ranking)))
     c.row_with.ensures.ok
 

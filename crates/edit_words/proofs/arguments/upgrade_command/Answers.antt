@@ -9,10 +9,11 @@ returns c =
     let start : app_of c.about.result ≡ new_app c.args.name.now = search rules in
     let local : (out-Command c.about.result).has_globals ≡ false = search rules in
     args_added _ _ _ _ _ c.with_args.ensures c.selections.ensures
-    (args_added _ _ _ _ _ c.with_args-command-5.ensures c.choices.ensures
-    (args_added _ _ _ _ _ c.with_args-command-4.ensures c.reports.ensures
+    (args_added _ _ _ _ _ c.with_args-command-6.ensures c.choices.ensures
+    (args_added _ _ _ _ _ c.with_args-command-5.ensures c.reports.ensures
+    (args_added _ _ _ _ _ c.with_args-command-4.ensures c.ages.ensures
     (args_added _ _ _ _ _ c.with_args-command-3.ensures c.switches.ensures
     (args_added _ _ _ _ _ c.with_args-command-2.ensures c.configurations.ensures
     (args_added (Ok c.about.result) _ _ _ (new_app c.args.name.now)
     c.with_args-command.ensures c.files.ensures
-    (start, local))))))
+    (start, local)))))))

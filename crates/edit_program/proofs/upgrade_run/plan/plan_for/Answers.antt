@@ -12,26 +12,26 @@ use Rattle.edit_program.proofs.upgrade_run.plan.plan_for.Goals as goal
 pub returns-in-Files-clause-planned : goal.returns-in-Files-clause-planned
 returns-in-Files-clause-planned g c =
     let locked = option_map (λ ps. map locked_package_view ps.now) c.args.locked in
-    over_files g.T.Store.view c.new.result c.args.index_files c.args.index
-    (λ (view : IndexView). IfOk c.plan_over.result (IsPlanned c.args.options.now
+    over_files g.T.Store.view c.with_bound.result c.args.index_files c.args.args.now.published_before
+    c.args.index
+    (λ (view : IndexView). IfOk c.plan_over.result (IsPlanned c.args.args.now.options
     c.args.target.now.inputs.items (lists_for c.args.configs.now) (locked_view locked view)))
-    c.in-Files.is c.new.ensures.store c.new.ensures.bound
-    c.plan_over.ensures.planned
+    c.in-Files.is c.with_bound.ensures.store c.with_bound.ensures.bound c.plan_over.ensures.planned
 
 pub returns-in-Files-clause-error : goal.returns-in-Files-clause-error
 returns-in-Files-clause-error g c =
     let locked = option_map (λ ps. map locked_package_view ps.now) c.args.locked in
-    over_files g.T.Store.view c.new.result c.args.index_files c.args.index
+    over_files g.T.Store.view c.with_bound.result c.args.index_files c.args.args.now.published_before
+    c.args.index
     (λ (view : IndexView). IfErr c.plan_over.result (λ e. IsMemory e
-    ⊎ IsPlanCause c.args.options.now c.args.target.now.inputs.items (lists_for c.args.configs.now)
+    ⊎ IsPlanCause c.args.args.now.options c.args.target.now.inputs.items (lists_for c.args.configs.now)
     (locked_view locked view) e))
-    c.in-Files.is c.new.ensures.store c.new.ensures.bound
-    c.plan_over.ensures.error
+    c.in-Files.is c.with_bound.ensures.store c.with_bound.ensures.bound c.plan_over.ensures.error
 
 pub returns-in-Files-clause-counted : goal.returns-in-Files-clause-counted
 returns-in-Files-clause-counted g c =
-    local_fault g.T.Store.view c.new.result c.args.index_files c.plan_over.result c.new.ensures.store
-    c.plan_over.ensures.counted
+    local_fault g.T.Store.view c.with_bound.result c.args.index_files c.plan_over.result
+    c.with_bound.ensures.store c.plan_over.ensures.counted
 
 pub returns-in-Lines-clause-counted : goal.returns-in-Lines-clause-counted
 returns-in-Lines-clause-counted g c =
@@ -41,23 +41,25 @@ returns-in-Lines-clause-counted g c =
 pub returns-in-Folder-clause-planned : goal.returns-in-Folder-clause-planned
 returns-in-Folder-clause-planned g c =
     let locked = option_map (λ ps. map locked_package_view ps.now) c.args.locked in
-    over_folder g.T.Store.view c.new-in-Folder.result c.args.index_files c.args.index c.in-Folder.folder
-    (λ (view : IndexView). IfOk c.plan_over-in-Folder.result (IsPlanned c.args.options.now
+    over_folder g.T.Store.view c.with_bound-in-Folder.result c.args.index_files
+    c.args.args.now.published_before c.args.index c.in-Folder.folder
+    (λ (view : IndexView). IfOk c.plan_over-in-Folder.result (IsPlanned c.args.args.now.options
     c.args.target.now.inputs.items (lists_for c.args.configs.now) (locked_view locked view)))
-    c.in-Folder.is c.new-in-Folder.ensures.store c.new-in-Folder.ensures.bound c.new-in-Folder.ensures.folder
-    c.plan_over-in-Folder.ensures.planned
+    c.in-Folder.is c.with_bound-in-Folder.ensures.store c.with_bound-in-Folder.ensures.bound
+    c.with_bound-in-Folder.ensures.folder c.plan_over-in-Folder.ensures.planned
 
 pub returns-in-Folder-clause-error : goal.returns-in-Folder-clause-error
 returns-in-Folder-clause-error g c =
     let locked = option_map (λ ps. map locked_package_view ps.now) c.args.locked in
-    over_folder g.T.Store.view c.new-in-Folder.result c.args.index_files c.args.index c.in-Folder.folder
+    over_folder g.T.Store.view c.with_bound-in-Folder.result c.args.index_files
+    c.args.args.now.published_before c.args.index c.in-Folder.folder
     (λ (view : IndexView). IfErr c.plan_over-in-Folder.result (λ e. IsMemory e
-    ⊎ IsPlanCause c.args.options.now c.args.target.now.inputs.items (lists_for c.args.configs.now)
+    ⊎ IsPlanCause c.args.args.now.options c.args.target.now.inputs.items (lists_for c.args.configs.now)
     (locked_view locked view) e))
-    c.in-Folder.is c.new-in-Folder.ensures.store c.new-in-Folder.ensures.bound c.new-in-Folder.ensures.folder
-    c.plan_over-in-Folder.ensures.error
+    c.in-Folder.is c.with_bound-in-Folder.ensures.store c.with_bound-in-Folder.ensures.bound
+    c.with_bound-in-Folder.ensures.folder c.plan_over-in-Folder.ensures.error
 
 pub returns-in-Folder-clause-counted : goal.returns-in-Folder-clause-counted
 returns-in-Folder-clause-counted g c =
-    folder_fault g.T.Store.view c.new-in-Folder.result c.args.index_files c.plan_over-in-Folder.result
-    c.new-in-Folder.ensures.store c.plan_over-in-Folder.ensures.counted
+    folder_fault g.T.Store.view c.with_bound-in-Folder.result c.args.index_files c.plan_over-in-Folder.result
+    c.with_bound-in-Folder.ensures.store c.plan_over-in-Folder.ensures.counted

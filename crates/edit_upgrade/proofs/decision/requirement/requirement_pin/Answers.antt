@@ -6,7 +6,7 @@ use Rattle.edit_version.specs.ReadRequirement.{text_in}
 use Rattle.edit_version.specs.Requirement.{comparators_of}
 use Rattle.edit_upgrade.specs.Decision.{is_pin}
 use Rattle.edit_upgrade.proofs.Pins.{pin-read}
-use Rattle.edit_upgrade.proofs.Readable.{requirement-ok}
+use Rattle.edit_version.proofs.Readable.{requirement-ok}
 use Rattle.edit_upgrade.proofs.decision.requirement.requirement_pin.Goals as goal
 
 pub returns-in-Some-clause-pinned : goal.returns-in-Some-clause-pinned

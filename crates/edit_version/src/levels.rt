@@ -1,0 +1,53 @@
+//! Levels, which bound how far a version may be from the floor of a requirement.
+ghost use Rattle.std.specs.Prelude.{◌≡◌};
+ghost use Rattle.edit_version.specs.Levels.{is_in_bound, is_within};
+ghost use Rattle.edit_version.specs.ReadRequirement.{text_in};
+ghost use Rattle.semver.specs.Identifiers.{parts_of};
+
+use crate::floors::floor;
+use crate::requirement::Requirement;
+use semver::{Comparator, Version};
+
+/// Which of its three numbers a version may have other than the floor of a requirement.
+#[derive(Clone, Copy, Debug, PartialEq, Eq)]
+pub enum Level {
+    /// The patch number.
+    Patch,
+    /// The minor and the patch number.
+    Minor,
+    /// Each number.
+    Major,
+}
+
+/// A level, and the comparator that names the floor from which it counts.
+#[derive(Clone, Copy)]
+pub struct Bound<'a> {
+    level: Option<Level>,
+    floor: Option<&'a Comparator>,
+}
+
+impl<'a> Bound<'a> {
+    /// The bound that a level sets for the versions of a requirement. Without a level, and for a requirement
+    /// without a floor, every version is within it.
+    pub fn new(level: Option<Level>, old: &'a Requirement<'_>) -> Bound<'a>
+        ensures { is_in_bound result ≡ is_within level (text_in old.now) }
+    {
+        Bound {
+            level,
+            floor: floor(old),
+        }
+    }
+
+    /// Whether a version is within the bound.
+    pub fn contains(&self, version: &Version) -> bool
+        ensures { result ≡ is_in_bound self.now (parts_of version.now) }
+    {
+        match (self.level, self.floor) {
+            (Some(Level::Patch), Some(floor)) => {
+                version.major == floor.major && version.minor == floor.minor.unwrap_or(0)
+            }
+            (Some(Level::Minor), Some(floor)) => version.major == floor.major,
+            _ => true,
+        }
+    }
+}
