@@ -51,7 +51,8 @@ pub record HasBadLine (folder : List ℕ) (store : StoreView) (address : Parts) 
   pub stands : HasBytesIn store (entry_path folder address name) bytes
   pub bad : IsBadLine (lines_of bytes) line
 
--- this is held back of the crate by the lines of its file, if the contents of the store's files are known (own)
+-- this is held back of the crate by the lines of its file, if the contents of the store's files are known
+-- (own)
 abbrev pub HasWithheld : Option PublishedBefore → List ℕ → StoreView → Parts → List ℕ → Withheld → Type 0
 HasWithheld bound folder store address name withheld =
     store.tells ≡ true

@@ -100,7 +100,8 @@ pub record HasBadLine (store : StoreView) (address : Parts) (name : List ℕ) (l
   pub stands : HasBytesIn store path bytes
   pub bad : IsBadLine (lines_of bytes) line
 
--- this is held back of the crate by the lines of its file, if the contents of the store's files are known (own)
+-- this is held back of the crate by the lines of its file, if the contents of the store's files are known
+-- (own)
 pub record HasWithheld (bound : Option PublishedBefore) (store : StoreView) (address : Parts)
     (name : List ℕ) (withheld : Withheld) : Type 0 where
   pub path : List ℕ

@@ -1,5 +1,5 @@
 -- What is held back of a crate's versions for their age (Cargo reference, "Registries", pubtime).
-use Rattle.std.specs.Prelude.{ℕ, ℤ, List, [], ◌∷◌, Option, Some, None, option_and_then, option_map, Bool, true, false, not, ◌&&◌, ◌||◌, codes, filter, if◌then◌else◌}
+use Rattle.std.specs.Prelude.{ℕ, ℤ, List, [], ◌∷◌, Option, Some, None, option_and_then, option_map, Bool, true, false, not, ◌&&◌, ◌||◌, codes, filter, if◌then◌else◌, unwrap_or}
 use Rattle.std.specs.List.{list_any}
 use Rattle.std.specs.Option.{option_map_or}
 use Rattle.std.specs.Str.{bytes_eq, is_utf8}
@@ -35,7 +35,7 @@ of_version bound yanked (Some time) = record {
 
 -- whether a JSON value is that of a yanked version (Cargo reference, "Registries", yanked)
 abbrev pub is_yanked : Data → Bool
-is_yanked d = option_map_or (λ yanked. yanked) (yanked_of (get (codes "yanked") d)) false
+is_yanked d = unwrap_or (yanked_of (get (codes "yanked") d)) false
 
 -- what is held back of the version in a JSON value, if that has the members of an entry (own)
 abbrev pub of_value : PublishedBefore → Data → Withheld

@@ -96,10 +96,7 @@ pub(crate) fn has_entry(value: &Value) -> bool
 fn is_yanked(value: &Value) -> bool
     ensures { result ≡ is_yanked (view value.now) }
 {
-    match yanked_flag(value.get("yanked")) {
-        Some(yanked) => yanked,
-        None => false,
-    }
+    yanked_flag(value.get("yanked")).unwrap_or(false)
 }
 
 /// What is held back of the version in a JSON value, if that has the members of an entry.
