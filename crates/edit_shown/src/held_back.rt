@@ -206,7 +206,7 @@ fn registries_of(
 }
 
 /// What an upgrade held back for the age of versions, of crates that are not excluded.
-pub fn held_back(
+pub fn list_held_back(
     alloc: Global,
     plan: &UpgradePlan,
     options: &Options,

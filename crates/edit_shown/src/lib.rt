@@ -15,7 +15,7 @@ mod presentation;
 pub use annotations::print_annotations;
 pub use changes::print_changes;
 pub use diffs::print_diffs;
-pub use held_back::{HeldBack, held_back};
+pub use held_back::{HeldBack, list_held_back};
 pub use markdown::print_markdown;
 pub use messages::print_messages;
 pub use presentation::{MessageFormat, Presentation};

@@ -8,7 +8,7 @@ ghost use Rattle.edit_shown.specs.HeldBack.{held_back};
 ghost use Rattle.edit_shown.specs.JsonMessages.{summary_members};
 ghost use Rattle.edit_shown.specs.Messages as spec;
 
-use crate::held_back::held_back;
+use crate::held_back::list_held_back;
 use crate::json::{
     Summary, file_message, held_back_message, row_message, summary_message, warning_message,
 };
@@ -138,7 +138,7 @@ fn print_held_back<O: io::Write>(
         (spec.held_back_message (held_back plan.now options.now))) }
     ensures error { IfErr result (λ e. IsMemory e ⊎ (e ≡ error.Output)) }
 {
-    let held = held_back(alloc, plan, options)?;
+    let held = list_held_back(alloc, plan, options)?;
     if held.is_empty() {
         return Ok(());
     }

@@ -56,7 +56,7 @@ pub record HasBadLine (folder : List ℕ) (store : StoreView) (address : Parts) 
 abbrev pub HasWithheld : Option PublishedBefore → List ℕ → StoreView → Parts → List ℕ → Withheld → Type 0
 HasWithheld bound folder store address name withheld =
     store.tells ≡ true
-    → option_map (of_text bound) (store.file_at (entry_path folder address name)) ≡ Some withheld
+    → Some withheld ≡ option_map (of_text bound) (store.file_at (entry_path folder address name))
 
 -- the results of a lookup: no file, the entries of its lines, an invalid crate name, or the number of the
 -- first malformed line (own)

@@ -106,7 +106,7 @@ pub record HasWithheld (bound : Option PublishedBefore) (store : StoreView) (add
     (name : List ℕ) (withheld : Withheld) : Type 0 where
   pub path : List ℕ
   pub at : IsIndexPath address name path
-  pub is : store.tells ≡ true → option_map (of_text bound) (store.file_at path) ≡ Some withheld
+  pub is : store.tells ≡ true → Some withheld ≡ option_map (of_text bound) (store.file_at path)
 
 -- the results of a lookup: no file, the entries of its lines, an error of the path, or the number of the
 -- first malformed line (own)

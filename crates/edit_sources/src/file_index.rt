@@ -15,7 +15,7 @@ use crate::index::{Index, IndexKrate, clone_versions};
 use crate::index_lines::read_lines;
 use crate::published::{PublishedBefore, retain_published};
 use crate::withheld::Withheld;
-use crate::withheld_crates::{WithheldCrates, withheld_crates};
+use crate::withheld_crates::{WithheldCrates, withheld_in};
 use edit_base::errors::{CargoResult, Error};
 use edit_version::fetch::IndexVersion;
 use std::alloc::{AllocError, Global};
@@ -59,7 +59,7 @@ impl FileIndex {
         let Some(bound) = bound else {
             return FileIndex::read(alloc, bytes);
         };
-        let withheld = withheld_crates(alloc, bytes, bound)?;
+        let withheld = withheld_in(alloc, bytes, bound)?;
         let published = retain_published(alloc, bytes, bound)?;
         match FileIndex::read(alloc, &published) {
             Ok(index) => Ok(index.with_withheld(withheld)),

@@ -85,7 +85,7 @@ fn add_line(
 }
 
 /// What is held back of each crate by its lines in a text.
-pub(crate) fn withheld_crates(
+pub(crate) fn withheld_in(
     alloc: Global,
     bytes: &[u8],
     bound: PublishedBefore,

@@ -7,7 +7,7 @@ ghost use Rattle.edit_program.specs.HeldBackNotes.{held_back_notes};
 
 use crate::upgrade_output::name_lists::{Noun, print_list};
 use edit_base::CargoResult;
-use edit_shown::held_back;
+use edit_shown::list_held_back;
 use edit_upgrade::{Options, UpgradePlan};
 use std::alloc::Global;
 use std::io;
@@ -31,7 +31,7 @@ pub(crate) fn print_held_back<E: io::Write>(
         (held_back_notes plan.now options.now)) }
     ensures error { IfErr result (λ e. IsMemory e ⊎ (e ≡ Output)) }
 {
-    let held = held_back(alloc, plan, options)?;
+    let held = list_held_back(alloc, plan, options)?;
     print_list(alloc, YOUNGER, Noun::Crate, held.younger.as_slice(), err)?;
     print_list(alloc, UNDATED, Noun::Crate, held.undated.as_slice(), err)?;
     print_list(

@@ -1,4 +1,4 @@
-use Rattle.std.proofs.Common.{◌≡◌, ◌++◌, List, ℕ, ap, append-nil, sym, ◌∙◌}
+use Rattle.std.proofs.Common.{◌≡◌, ◌++◌, ap, append-nil, rules, sym, ◌∙◌}
 use Rattle.std.specs.Prelude.{if◌then◌else◌, []}
 use Rattle.std.specs.Option.{is_some}
 use Rattle.edit_sources.specs.IndexLines.{lines_left, lines_of}
@@ -10,8 +10,7 @@ use Rattle.edit_sources.proofs.published.retain_text.Goals as goal
 
 pub lines-init : goal.lines-init
 lines-init c = record {
-  text = ap (λ (t : List ℕ). t ++ published_text c.args.bound c.args.bytes.now)
-      (sym c.in_ok-published.ensures.items);
+  text = search rules;
   withheld = sym (either-onto c.nothing-withheld.result (of_lines c.args.bound (lines_of c.args.bytes.now))
       c.nothing-withheld.ensures);
 }

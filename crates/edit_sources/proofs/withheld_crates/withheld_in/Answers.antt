@@ -3,7 +3,7 @@ use Rattle.std.specs.BTreeMap.{get_by_text}
 use Rattle.edit_sources.specs.IndexLines.{lines_left, lines_of}
 use Rattle.edit_sources.specs.Withheld.{joined, of_crate}
 use Rattle.edit_sources.proofs.WithheldLemmas.{joined-none, of_crate-more}
-use Rattle.edit_sources.proofs.withheld_crates.withheld_crates.Goals as goal
+use Rattle.edit_sources.proofs.withheld_crates.withheld_in.Goals as goal
 
 pub lines-preserved : goal.lines-preserved
 lines-preserved c = λ name.

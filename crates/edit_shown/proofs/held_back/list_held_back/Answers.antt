@@ -1,6 +1,6 @@
 use Rattle.edit_metadata.specs.Reading.{holds}
 use Rattle.edit_shown.proofs.HeldBackLemmas.{held_is}
-use Rattle.edit_shown.proofs.held_back.held_back.Goals as goal
+use Rattle.edit_shown.proofs.held_back.list_held_back.Goals as goal
 
 pub returns : goal.returns
 returns c =
