@@ -1,5 +1,5 @@
 //! An index in a single file, which is read once.
-ghost use Rattle.std.specs.Prelude.{◌≡◌, ℕ, [], List, None, false, IfOk, IfErr, IfSome, map, option_map, slice_get, string_bytes, unwrap_or};
+ghost use Rattle.std.specs.Prelude.{◌≡◌, ℕ, [], List, None, false, IfOk, IfErr, IfSome, map, slice_get, string_bytes, unwrap_or};
 ghost use Rattle.std.specs.Option.{option_map_or};
 ghost use Rattle.std.specs.Str.{bytes_eq};
 ghost use Rattle.edit_base.specs.Errors.{IsMemory};
