@@ -13,9 +13,9 @@ ghost use Rattle.edit_sources.specs.Withheld.{nothing, withheld_of};
 use crate::crate_name::is_crate_name;
 use crate::index::{Index, IndexKrate, clone_versions};
 use crate::index_lines::read_lines;
-use crate::published::{PublishedBefore, retain_published};
+use crate::published::PublishedBefore;
 use crate::withheld::Withheld;
-use crate::withheld_crates::{WithheldCrates, withheld_in};
+use crate::withheld_crates::{RetainedCrates, WithheldCrates, retain_crates};
 use edit_base::errors::{CargoResult, Error};
 use edit_version::fetch::IndexVersion;
 use std::alloc::{AllocError, Global};
@@ -59,10 +59,10 @@ impl FileIndex {
         let Some(bound) = bound else {
             return FileIndex::read(alloc, bytes);
         };
-        let withheld = withheld_in(alloc, bytes, bound)?;
-        let published = retain_published(alloc, bytes, bound)?;
+        let retained = retain_crates(alloc, bytes, bound)?;
+        let RetainedCrates { published, crates } = retained;
         match FileIndex::read(alloc, &published) {
-            Ok(index) => Ok(index.with_withheld(withheld)),
+            Ok(index) => Ok(index.with_withheld(crates)),
             Err(error) => Err(error),
         }
     }

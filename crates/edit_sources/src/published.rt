@@ -111,7 +111,7 @@ pub(crate) fn of_value(value: &Value, bound: PublishedBefore) -> Withheld
 }
 
 /// Whether a JSON value is that of a version which was not published at or before the bound.
-fn is_withheld_value(value: &Value, bound: PublishedBefore) -> bool
+pub(crate) fn is_withheld_value(value: &Value, bound: PublishedBefore) -> bool
     ensures { result ≡ (has_entry (view value.now) && not (is_by bound (publish_time (view value.now)))) }
 {
     has_entry(value) && !is_by(bound, publish_time(value))
@@ -145,7 +145,7 @@ fn line_age(alloc: Global, line: &[u8], bound: PublishedBefore) -> CargoResult<L
 }
 
 /// Appends a line, or an empty one if it is withheld, and a line feed if there are lines after it.
-fn push_line(
+pub(crate) fn push_line(
     text: &mut Vec<u8>,
     line: &[u8],
     withheld: bool,

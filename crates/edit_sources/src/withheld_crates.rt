@@ -5,10 +5,11 @@ ghost use Rattle.std.specs.Str.{bytes_eq};
 ghost use Rattle.serde_json.specs.View.{view};
 ghost use Rattle.edit_base.specs.Errors.{IsMemory};
 ghost use Rattle.edit_sources.specs.IndexLines.{lines_of};
+ghost use Rattle.edit_sources.specs.Published.{is_withheld, published_text};
 ghost use Rattle.edit_sources.specs.Withheld as spec;
 
 use crate::index_lines::{split_line, text};
-use crate::published::{PublishedBefore, has_entry, of_value};
+use crate::published::{PublishedBefore, has_entry, is_withheld_value, of_value, push_line};
 use crate::withheld::{Withheld, either};
 use edit_base::errors::{CargoResult, Error};
 use serde_json::Value;
@@ -63,13 +64,14 @@ fn add_value(
     }
 }
 
-/// Adds what is held back of the version in a line, if that is valid.
+/// Adds what is held back of the version in a line, if that is valid, and returns whether the line is left out.
 fn add_line(
     alloc: Global,
     line: &[u8],
     bound: PublishedBefore,
     crates: &mut WithheldCrates,
-) -> CargoResult<()>
+) -> CargoResult<bool>
+    ensures line { IfOk result (λ w. w ≡ is_withheld bound line.now) }
     ensures added { OnOk result ((q : List ℕ) → get_by_text crates.new q
         ≡ spec.joined (get_by_text crates.old q) (spec.line_of_crate bound q line.now)) }
     ensures error { IfErr result IsMemory }
@@ -77,29 +79,40 @@ fn add_line(
     match Value::from_slice(alloc, line) {
         Ok(value) => {
             add_value(alloc, &value, bound, crates)?;
-            Ok(())
+            Ok(is_withheld_value(&value, bound))
         }
         Err(error) if error.is_memory() => Err(Error::Memory),
-        Err(_) => Ok(()),
+        Err(_) => Ok(false),
     }
 }
 
-/// What is held back of each crate by its lines in a text.
-pub(crate) fn withheld_in(
+/// A text of an index with the lines of versions that were published by a bound, and what was held back of
+/// each crate that it has lines of.
+#[derive(Debug, Drop)]
+pub(crate) struct RetainedCrates {
+    pub(crate) published: Vec<u8>,
+    pub(crate) crates: WithheldCrates,
+}
+
+/// Empties lines of a text as `retain_published` does.
+pub(crate) fn retain_crates(
     alloc: Global,
     bytes: &[u8],
     bound: PublishedBefore,
-) -> CargoResult<WithheldCrates>
-    ensures crates { IfOk result (λ m. (name : List ℕ) → get_by_text m name
+) -> CargoResult<RetainedCrates>
+    ensures text { IfOk result (λ r. r.published.items ≡ published_text bound bytes.now) }
+    ensures crates { IfOk result (λ r. (name : List ℕ) → get_by_text r.crates name
         ≡ spec.of_crate bound (lines_of bytes.now) name) }
     ensures error { IfErr result IsMemory }
 {
+    let mut published = Vec::with_capacity(alloc, bytes.len())?;
     let mut crates = BTreeMap::new(alloc);
     let mut rest = Some(bytes);
     'lines: while let Some(text) = rest {
         let (line, after) = split_line(text);
-        add_line(alloc, line, bound, &mut crates)?;
+        let withheld = add_line(alloc, line, bound, &mut crates)?;
+        push_line(&mut published, line, withheld, after.is_some())?;
         rest = after;
     }
-    Ok(crates)
+    Ok(RetainedCrates { published, crates })
 }

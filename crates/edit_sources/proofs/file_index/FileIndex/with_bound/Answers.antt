@@ -11,7 +11,7 @@ use Rattle.edit_sources.proofs.file_index.FileIndex.with_bound.Goals as goal
 
 pub returns-in-Ok-clause-entries : goal.returns-in-Ok-clause-entries
 returns-in-Ok-clause-entries c =
-    let published = c.deref.ensures.value ∙ c.in_ok-published.ensures.text in
+    let published = c.deref.ensures.value ∙ c.in_ok-retained.ensures.text in
     same_lines c.in-Ok.index c.with_withheld.result (text_by c.args.bound c.args.bytes.now)
     c.with_withheld.ensures.groups
     (subst (λ (t : List ℕ). HoldsLines c.in-Ok.index t)
@@ -20,11 +20,11 @@ returns-in-Ok-clause-entries c =
 pub returns-in-Ok-clause-withheld : goal.returns-in-Ok-clause-withheld
 returns-in-Ok-clause-withheld c = λ name.
     ap (λ m. get_by_text m name) c.with_withheld.ensures.withheld
-    ∙ c.in_ok-withheld.ensures.crates name
+    ∙ c.in_ok-retained.ensures.crates name
     ∙ sym (ap (λ b. of_crate_in b c.args.bytes.now name) c.in-Some.is)
 
 pub returns-in-Err-clause-error : goal.returns-in-Err-clause-error
 returns-in-Err-clause-error c =
-    let published = c.deref.ensures.value ∙ c.in_ok-published.ensures.text in
+    let published = c.deref.ensures.value ∙ c.in_ok-retained.ensures.text in
     published_error c.in-Some.bound c.args.bytes.now c.in-Err.error
     (subst (λ (t : List ℕ). IsLinesError (lines_of t) c.in-Err.error) published c.in-Err.ensures.error)
