@@ -2,6 +2,7 @@
 ghost use Rattle.std.specs.Prelude.{◌≡◌, ◌++◌, ◌∷◌, [], IfErr, IfOk, OnOk, if◌then◌else◌, codes, map, option_map, string_bytes};
 ghost use Rattle.edit_base.specs.Errors.{IsMemory};
 ghost use Rattle.edit_sources.specs.Index.{answer_of, entries_of};
+ghost use Rattle.edit_sources.specs.Withheld.{withheld_of};
 ghost use Rattle.edit_version.specs.IndexEntry.{entry_of};
 ghost use Rattle.edit_locked_index.specs.LockedIndex.{retained_entries, restricted_answer, version_test};
 
@@ -81,10 +82,12 @@ fn locked_krate(
 ) -> CargoResult<IndexKrate>
     ensures ok { IfOk result (λ k. entries_of k
         ≡ retained_entries (version_test specs.now name.now) (entries_of krate.now)) }
+    ensures withheld { IfOk result (λ k. k.withheld ≡ krate.now.withheld) }
     ensures error { IfErr result IsMemory }
 {
     let versions = locked_entries(alloc, specs, name, krate.versions.as_slice())?;
-    Ok(IndexKrate { versions })
+    let withheld = krate.withheld;
+    Ok(IndexKrate { versions, withheld })
 }
 
 /// The answer of a lookup, with only the entries in the versions that a lock file has.
@@ -96,6 +99,7 @@ fn locked_answer(
 ) -> CargoResult<Option<IndexKrate>>
     ensures ok { IfOk result (λ k. answer_of k
         ≡ option_map (retained_entries (version_test specs.now name.now)) (answer_of answer)) }
+    ensures withheld { IfOk result (λ k. withheld_of k ≡ withheld_of answer) }
     ensures error { IfErr result IsMemory }
 {
     match answer {
@@ -113,6 +117,7 @@ pub(crate) fn restricted_answer(
 ) -> CargoResult<Option<IndexKrate>>
     ensures ok { IfOk result (λ k. answer_of k
         ≡ restricted_answer (option_map (λ s. version_test s.now) specs.entry) name.now (answer_of answer)) }
+    ensures withheld { IfOk result (λ k. withheld_of k ≡ withheld_of answer) }
     ensures error { IfErr result IsMemory }
 {
     match specs {

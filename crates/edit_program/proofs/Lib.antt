@@ -1,4 +1,6 @@
 pub mod AbsentLemmas
+mod NameListLemmas
+mod HeldBackNoteLemmas
 pub mod ArgsLemmas
 pub mod CheckLemmas
 pub mod CommandCases

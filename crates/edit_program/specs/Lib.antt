@@ -1,4 +1,6 @@
 pub mod Absent
+pub mod NameLists
+pub mod HeldBackNotes
 pub mod ParsedBound
 pub mod ParsedOptions
 pub mod Commands

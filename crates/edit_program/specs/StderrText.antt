@@ -20,6 +20,7 @@ use Rattle.edit_upgrade.specs.declared.upgrade.UpgradePlan.{UpgradePlan}
 use Rattle.edit_upgrade.specs.declared.upgrade.Warning.{Warning}
 use Rattle.edit_program.specs.Absent.{absent_note}
 use Rattle.edit_program.specs.Delivery.{Delivery}
+use Rattle.edit_program.specs.HeldBackNotes.{held_back_notes}
 
 -- a warning
 abbrev pub warning : List ℕ → List ℕ
@@ -136,8 +137,8 @@ abbrev pub hidden_note : ℤ → List Row → List ℕ
 hidden_note verbosity [] = []
 hidden_note verbosity (row ∷ rows) = note (hidden_text verbosity (row ∷ rows))
 
--- the notes on a plan, the warning that a dry run wrote nothing, and the note on crates missing in the
--- index
+-- the notes on a plan, the warning that a dry run wrote nothing, the note on crates missing in the index, and
+-- the notes on what was held back for the age of versions
 abbrev pub notes : UpgradePlan → Options → Bool → List ℕ
 notes plan options offline =
     message_if plan.pinned_present
@@ -146,7 +147,8 @@ notes plan options offline =
     (note (codes "Re-run with `--incompatible` to upgrade incompatible version requirements"))
     ++ (hidden_note options.verbosity (hidden_rows options.verbosity plan.rows.items)
     ++ (message_if options.dry_run (warning (codes "aborting upgrade due to dry run"))
-    ++ absent_note plan options offline)))
+    ++ (absent_note plan options offline
+    ++ held_back_notes plan options))))
 
 -- all that standard error has of a plan: the report on each input, the calls, the notes
 abbrev pub upgrade_stderr_text : Delivery → List ℕ

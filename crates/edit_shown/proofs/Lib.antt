@@ -10,3 +10,4 @@ pub mod FloatLemmas
 pub mod MarkdownLemmas
 pub mod AnnotationLemmas
 pub mod RequirementLineLemmas
+pub mod HeldBackLemmas

@@ -6,6 +6,7 @@ ghost use Rattle.edit_base.specs.declared.errors.Error.TheVariants.{Output};
 ghost use Rattle.edit_program.specs.StderrText.{hidden_rows, hidden_note, note, notes, warning, message_if};
 
 use crate::upgrade_output::absent_crates::print_absent;
+use crate::upgrade_output::held_back_notes::print_held_back;
 use crate::upgrade_output::hidden_rows_note::{hidden_rows, hidden_text};
 use edit_base::CargoResult;
 use edit_report::{Row, shell_note, shell_warn};
@@ -65,8 +66,8 @@ fn print_hidden<E: io::Write>(
     shell_note(err, text.as_str())
 }
 
-/// Prints the notes on a plan, the warning that a dry run wrote nothing, and the note on crates missing in
-/// the index.
+/// Prints the notes on a plan, the warning that a dry run wrote nothing, the note on crates missing in the
+/// index, and the notes on what was held back for the age of versions.
 pub(crate) fn print_notes<E: io::Write>(
     alloc: Global,
     plan: &UpgradePlan,
@@ -82,5 +83,6 @@ pub(crate) fn print_notes<E: io::Write>(
     note_if(plan.incompatible_present, INCOMPATIBLE, err)?;
     print_hidden(alloc, plan.rows.as_slice(), options.verbosity, err)?;
     warn_if(options.dry_run, DRY_RUN, err)?;
-    print_absent(alloc, plan, options, offline, err)
+    print_absent(alloc, plan, options, offline, err)?;
+    print_held_back(alloc, plan, options, err)
 }

@@ -1,7 +1,7 @@
 use Rattle.std.proofs.Common.{◌∙◌}
 use Rattle.std.proofs.lemmas.Result.{IfOk-weaker}
-use Rattle.edit_program.proofs.AbsentLemmas.{few_listed}
-use Rattle.edit_program.proofs.upgrade_output.absent_crates.abbreviate_names.Goals as goal
+use Rattle.edit_program.proofs.NameListLemmas.{few_listed}
+use Rattle.edit_program.proofs.upgrade_output.name_lists.abbreviate_names.Goals as goal
 
 pub returns-then-names-le-MOST_NAMES : goal.returns-then-names-le-MOST_NAMES
 returns-then-names-le-MOST_NAMES c =

@@ -2,7 +2,7 @@ use Rattle.std.proofs.Common.{◌∙◌}
 use Rattle.std.specs.Prelude.{codes}
 use Rattle.std.proofs.lemmas.Result.{IfOk-weaker}
 use Rattle.edit_program.proofs.NameLemmas.{joined_names}
-use Rattle.edit_program.proofs.upgrade_output.absent_crates.join_names.Goals as goal
+use Rattle.edit_program.proofs.upgrade_output.name_lists.join_names.Goals as goal
 
 pub returns : goal.returns
 returns c =
