@@ -24,6 +24,8 @@ pub mod Tables
 pub mod Delivery
 pub mod PrintedPlan
 pub mod CallsFile
+pub mod ApartNote
+pub mod Unifying
 pub mod StderrText
 pub mod Delivered
 pub mod DeliveryCauses

@@ -18,6 +18,7 @@ use Rattle.edit_program.specs.Delivered.{IsDeliveryInterrupted, IsDelivered}
 use Rattle.edit_program.specs.Delivery.{Delivery, calls_against, calls_of}
 use Rattle.edit_program.specs.LockRead.{IsLockRead}
 use Rattle.edit_program.specs.Run.{Run}
+use Rattle.edit_program.specs.Unifying.{IsUnifiedFor}
 use Rattle.edit_program.specs.StderrText.{upgrade_stderr_text}
 
 -- the given files were read
@@ -49,10 +50,11 @@ called_workspace to_lockfile workspace = if to_lockfile then None else workspace
 
 -- a plan for these manifests, as the arguments request it to be printed, with this path for the file of the
 -- calls, which are adapted to the lock file with these packages, where there is one
-abbrev pub delivery_by : UpgradeArgs → List ℕ → UpgradePlan → Target → Option (List ℕ) → Option (List Package)
-    → Delivery
-delivery_by args current plan target path lock = record {
+abbrev pub delivery_by : UpgradeArgs → List ℕ → UpgradePlan → List (List ℕ) → Target → Option (List ℕ)
+    → Option (List Package) → Delivery
+delivery_by args current plan apart target path lock = record {
   plan = plan;
+  apart = apart;
   inputs = target.inputs.items;
   options = args.options;
   current = diff_root current (option_map workspace_view target.workspace);
@@ -64,18 +66,22 @@ delivery_by args current plan target path lock = record {
   offline = args.offline;
 }
 
--- the given files were read and planned, and this holds of the plan with the request to print and write it
+-- the given files were read and planned, the plan is unified where that is requested, and this holds of it
+-- with the request to print and write it
 pub record IsPlannedTo (Ends : Delivery → Type 0) (args : UpgradeArgs) (current : List ℕ)
     (home : Option (List ℕ)) (local : StoreView) (files : Files) : Type 0 where
   pub sources : Sources
+  pub single : UpgradePlan
   pub plan : UpgradePlan
+  pub apart : List (List ℕ)
   pub path : Option (List ℕ)
   pub lock : Option (List Package)
   pub read : IsRead args current home files sources
-  pub planned : IsPlannedFor args sources lock local plan
+  pub planned : IsPlannedFor args sources lock local single
+  pub unified : IsUnifiedFor args sources single plan apart
   pub at : IsPathOf current (given args.update_calls) path
   pub locked : IsLockRead args.to_lockfile files current (given args.lock_file) lock
-  pub ends : Ends (delivery_by args current plan sources.target path lock)
+  pub ends : Ends (delivery_by args current plan apart sources.target path lock)
 
 -- the plan changes a manifest
 abbrev pub has_outputs : UpgradePlan → Bool

@@ -1,6 +1,7 @@
 //! What an upgrade prints and writes after it is planned.
 
 mod absent_crates;
+mod apart_crates;
 mod calls;
 mod calls_file;
 mod delivery;

@@ -231,5 +231,6 @@ pub(crate) fn parse_upgrade_args<'a>(
         offline: is_given(matches, "offline"),
         to_lockfile,
         published_before,
+        unify: is_given(matches, "unify"),
     })
 }

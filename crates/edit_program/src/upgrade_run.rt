@@ -4,6 +4,7 @@ mod delivering;
 mod lookup_printing;
 mod plan;
 mod reading;
+mod unifying;
 pub mod upgrade_args;
 mod upgrading;
 

@@ -80,7 +80,7 @@ fn join_names(alloc: Global, names: &[String]) -> Result<String, AllocError>
 }
 
 /// Names as a note lists them: at most five, and the number of the others.
-fn abbreviate_names(alloc: Global, names: &[String]) -> Result<String, AllocError>
+pub(crate) fn abbreviate_names(alloc: Global, names: &[String]) -> Result<String, AllocError>
     ensures { IfOk result (λ s. string_bytes s ≡ spec.abbreviate_names (map string_bytes names.now)) }
 {
     if names.len() <= MOST_NAMES {
@@ -92,7 +92,7 @@ fn abbreviate_names(alloc: Global, names: &[String]) -> Result<String, AllocErro
 }
 
 /// `crate` or `crates`, by their number.
-fn crate_or_crates(count: usize) -> &'static str
+pub(crate) fn crate_or_crates(count: usize) -> &'static str
     ensures { result.now ≡ spec.crate_or_crates count }
 {
     if count == 1 { "crate" } else { "crates" }

@@ -1,5 +1,5 @@
 //! How a plan is printed and written, from the arguments.
-ghost use Rattle.std.specs.Prelude.{◌≡◌, IfErr, IfOk, option_map, string_bytes};
+ghost use Rattle.std.specs.Prelude.{◌≡◌, IfErr, IfOk, map, option_map, string_bytes};
 ghost use Rattle.edit_base.specs.Errors.{IsMemory};
 ghost use Rattle.edit_lock.specs.Views.{lock_view};
 ghost use Rattle.edit_metadata.specs.Workspaces.{workspace_view};
@@ -8,6 +8,7 @@ ghost use Rattle.edit_program.specs.Delivery.{delivery_of};
 ghost use Rattle.edit_program.specs.Upgrading.{IsPathOf, called_workspace, delivery_by, diff_root, has_outputs};
 
 use crate::upgrade_output::DeliveryTask;
+use crate::upgrade_run::unifying::UnifiedPlan;
 use crate::upgrade_run::upgrade_args::UpgradeArgs;
 use edit_base::CargoResult;
 use edit_lock::Lock;
@@ -60,16 +61,18 @@ pub(crate) fn delivery_task<'a>(
     args: &'a UpgradeArgs<'_>,
     current: &'a str,
     target: &'a Target,
-    plan: &'a UpgradePlan,
+    unified: &'a UnifiedPlan,
     path: Option<&'a str>,
     lock: Option<&'a Lock>,
 ) -> DeliveryTask<'a>
-    ensures { delivery_of result ≡ delivery_by args.entry.now current.now plan.entry.now target.entry.now
-        (given path.entry) (option_map (λ l. lock_view l.now) lock.entry) }
+    ensures { delivery_of result ≡ delivery_by args.entry.now current.now unified.entry.now.plan
+        (map string_bytes unified.entry.now.apart.items) target.entry.now (given path.entry)
+        (option_map (λ l. lock_view l.now) lock.entry) }
 {
     let workspace = target.workspace.as_ref();
     DeliveryTask {
-        plan,
+        plan: &unified.plan,
+        apart: unified.apart.as_slice(),
         inputs: target.inputs.as_slice(),
         workspace: called_workspace(args.to_lockfile, workspace),
         options: &args.options,

@@ -37,6 +37,8 @@ pub struct UpgradeArgs<'a> {
     pub to_lockfile: bool,
     /// The time by which versions have to be published, where there is one.
     pub published_before: Option<PublishedBefore>,
+    /// Raise differing requirements of one crate in one compatible range to the highest of them.
+    pub unify: bool,
 }
 
 impl<'a> UpgradeArgs<'a> {
