@@ -63,7 +63,7 @@ fn count_changes(rows: &[Row]) -> u64 {
 /// Whether a row of a crate changes.
 fn has_change(name: &str, rows: &[Row]) -> bool {
     rows.iter()
-        .any(|row| row.change.is_some() && row.name == name)
+        .any(|row| row.change.is_some() && row.name.as_str() == name)
 }
 
 /// The text of an item that chooses a row which is not there; `None` where each row is there.

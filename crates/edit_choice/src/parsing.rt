@@ -1,5 +1,6 @@
 //! The text of a choice.
-ghost use Rattle.std.specs.Prelude.{◌≡◌, IfErr, IfOk};
+ghost use Rattle.std.specs.Prelude.{IfOk, IfSome, OnOk};
+ghost use Rattle.edit_choice.specs.ChoiceTexts.{IsChoiceText, IsNoChoice};
 
 use crate::items::{RowChoice, RowItem};
 use std::alloc::{AllocError, Global};
@@ -32,7 +33,7 @@ fn number_range<'a>(first: &str, last: &str) -> Option<RowItem<'a>> {
     Some(RowItem::Numbers(first, last))
 }
 
-/// The item that a text begins with a digit: a number, or a range as `3-5`.
+/// The item of a text that begins with a digit: a number, or a range as `3-5`.
 fn number_item<'a>(text: &str) -> Option<RowItem<'a>> {
     match text.split_once('-') {
         Some((first, last)) => number_range(first, last),
@@ -84,7 +85,10 @@ fn trimmed(text: &str) -> &str {
 impl<'a> RowChoice<'a> {
     /// The choice that a text is: `all`, `none`, or numbers, ranges and names. No text is no row; `None`
     /// for a text that is no choice.
-    pub fn parse(alloc: Global, text: &'a str) -> Result<Option<RowChoice<'a>>, AllocError> {
+    pub fn parse(alloc: Global, text: &'a str) -> Result<Option<RowChoice<'a>>, AllocError>
+        ensures choice { IfOk result (λ o. IfSome o (IsChoiceText text.entry.now)) }
+        ensures none { IfOk result (IsNoChoice text.entry.now) }
+    {
         match trimmed(text) {
             "all" => Ok(Some(RowChoice::All)),
             "" | "none" => Ok(Some(RowChoice::Items(Vec::new(alloc)))),

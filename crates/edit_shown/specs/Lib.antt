@@ -12,3 +12,4 @@ pub mod Markdown
 pub mod RequirementLines
 pub mod Annotations
 pub mod InputDocuments
+pub mod Numbered

@@ -8,6 +8,7 @@ mod diffs;
 pub mod json;
 mod markdown;
 mod messages;
+mod numbered;
 mod paths;
 mod presentation;
 
@@ -16,4 +17,5 @@ pub use changes::print_changes;
 pub use diffs::print_diffs;
 pub use markdown::print_markdown;
 pub use messages::print_messages;
+pub use numbered::print_numbered;
 pub use presentation::{MessageFormat, Presentation};

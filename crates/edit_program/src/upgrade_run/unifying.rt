@@ -1,5 +1,5 @@
 //! A plan with one requirement for each crate in each compatible range.
-ghost use Rattle.std.specs.Prelude.{◌≡◌, IfErr, IfOk, length, map, string_bytes};
+ghost use Rattle.std.specs.Prelude.{◌≡◌, IfErr, IfOk, length, map, option_map, string_bytes};
 ghost use Rattle.edit_base.specs.Errors.{IsMemory};
 ghost use Rattle.edit_steps.specs.Shared.{HasLists, lists_for};
 ghost use Rattle.edit_steps.specs.Sources.{AreDocuments};
@@ -9,16 +9,16 @@ ghost use Rattle.edit_program.specs.Unifying.{IsUnifiedOver, IsUnifiedOrSame};
 use crate::upgrade_run::upgrade_args::UpgradeArgs;
 use edit_base::CargoResult;
 use edit_steps::upgrade_read::{SharedConfigs, Target};
-use edit_unify::{apart_names, unify_rows};
+use edit_unify::unify_rows;
 use edit_upgrade::{UpgradePlan, revised_plan, row_addresses};
 use edit_version::Level;
 use std::alloc::Global;
 
-/// A plan, and the crates that it leaves in more than one compatible range where it is unified.
+/// A plan, and the addresses of the registries of its rows where it is unified, else none.
 #[derive(Drop)]
 pub(crate) struct UnifiedPlan {
     pub(crate) plan: UpgradePlan,
-    pub(crate) apart: Vec<String>,
+    pub(crate) addresses: Vec<Option<String>>,
 }
 
 /// The plan with the highest requirement of each crate in each compatible range in place of lower ones.
@@ -34,7 +34,7 @@ fn unified_plan(
     requires documents { AreDocuments target.now.documents.items target.now.inputs.items }
     requires rows { AreRowsOf target.now.inputs.items plan.rows.items }
     ensures unified { IfOk result (λ u. IsUnifiedOver level target.now.inputs.items (lists_for configs.now) plan
-        u.plan (map string_bytes u.apart.items)) }
+        u.plan (map (option_map string_bytes) u.addresses.items)) }
     ensures error { IfErr result IsMemory }
 {
     let Target {
@@ -52,9 +52,8 @@ fn unified_plan(
         ..
     } = plan;
     let rows = unify_rows(alloc, level, rows, &addresses)?;
-    let apart = apart_names(alloc, &rows, &addresses)?;
     let plan = revised_plan(alloc, inputs, documents, rows, looks, warnings, missing)?;
-    Ok(UnifiedPlan { plan, apart })
+    Ok(UnifiedPlan { plan, addresses })
 }
 
 /// The plan to carry out: with `--unify` it has one requirement for each crate in each compatible range.
@@ -70,13 +69,14 @@ pub(crate) fn unify_plan(
     requires documents { AreDocuments target.now.documents.items target.now.inputs.items }
     requires rows { AreRowsOf target.now.inputs.items plan.rows.items }
     ensures unified { IfOk result (λ u. IsUnifiedOrSame args.now.unify args.now.options.level
-        target.now.inputs.items (lists_for configs.now) plan u.plan (map string_bytes u.apart.items)) }
+        target.now.inputs.items (lists_for configs.now) plan u.plan
+        (map (option_map string_bytes) u.addresses.items)) }
     ensures error { IfErr result IsMemory }
 {
     if !args.unify {
         return Ok(UnifiedPlan {
             plan,
-            apart: Vec::new(alloc),
+            addresses: Vec::new(alloc),
         });
     }
     unified_plan(alloc, args.options.level, target, configs, plan)
