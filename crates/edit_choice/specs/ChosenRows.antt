@@ -1,5 +1,5 @@
 -- Rows of which only the chosen ones change.
-use Rattle.std.specs.Prelude.{◌≡◌, ◌&&◌, ℕ, suc, List, [], ◌∷◌, Bool, Option, Some, None, decimal, filter, if◌then◌else◌, is_some, length, nat_le, option_map, string_bytes}
+use Rattle.std.specs.Prelude.{◌≡◌, ◌&&◌, ℕ, suc, List, [], ◌∷◌, Bool, Option, Some, None, decimal, filter, if◌then◌else◌, is_some, length, nat_le, option_map, string_bytes, ⊤}
 use Rattle.std.specs.List.{filter_map, list_any}
 use Rattle.std.specs.Str.{bytes_eq}
 use Rattle.edit_report.specs.declared.row.Row.{Row}
@@ -25,7 +25,7 @@ pub record IsUnchanged (row after : Row) : Type 0 where
 -- the rows from the one on with this number less one: a row without a change stays, one with a change is
 -- numbered, and stays if it is chosen, else its change is taken back
 abbrev pub AreChosenFrom : RowChoice → ℕ → List Row → List Row → Type 0
-AreChosenFrom choice n [] [] = [] ≡ []
+AreChosenFrom choice n [] [] = ⊤
 AreChosenFrom choice n (row ∷ rows) (a ∷ after) =
     if is_some row.change
     then ((if is_chosen choice (suc n) (string_bytes row.name) then a ≡ row else IsUnchanged row a)

@@ -1,6 +1,5 @@
 -- Rows with one requirement for each crate of a registry in each compatible range.
-use Rattle.std.specs.Prelude.{◌≡◌, ℕ, List, [], ◌∷◌, true, All, Contains, Option, Some, None, if◌then◌else◌, false, map, option_and_then, option_map, string_bytes}
-use Rattle.std.specs.List.{AllZip}
+use Rattle.std.specs.Prelude.{◌≡◌, ℕ, List, [], ◌∷◌, true, Contains, Option, Some, None, if◌then◌else◌, false, map, option_and_then, option_map, string_bytes, ⊤}
 use Rattle.std.specs.Str.{bytes_eq}
 use Rattle.std.specs.Option.{option_map_or}
 use Rattle.edit_report.specs.declared.row.Change.{Change}
@@ -66,7 +65,7 @@ abbrev pub AreUnified : Option Level → List (Option (List ℕ)) → List Row �
 AreUnified level addresses rows after = AreEach (stands_of addresses rows) (stands_of addresses rows) rows after
   where
     AreEach : List (Option Required) → List (Option Required) → List Row → List Row → Type 0
-    AreEach stands [] [] [] = [] ≡ []
+    AreEach stands [] [] [] = ⊤
     AreEach stands (own ∷ more) (row ∷ rows) (a ∷ after) =
         IsUnified level stands own row a × AreEach stands more rows after
     AreEach stands owns rows after = ⊥

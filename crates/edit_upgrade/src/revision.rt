@@ -1,11 +1,12 @@
 //! Plans whose rows are revised after the decisions for single entries.
-ghost use Rattle.std.specs.Prelude.{◌≡◌, ◌++◌, IfErr, IfOk, OnOk, length, map, option_map, string_bytes};
+ghost use Rattle.std.specs.Prelude.{◌≡◌, All, IfErr, IfOk, IfSome, OnOk, length, map, option_copied, option_map, string_bytes};
 ghost use Rattle.edit_base.specs.Errors.{IsMemory};
+ghost use Rattle.edit_upgrade.specs.Addresses.{AreAddresses};
 ghost use Rattle.edit_upgrade.specs.ConfigLists.{AreIndices, chosen_lists};
 ghost use Rattle.edit_upgrade.specs.Found.{row_entry_view};
 ghost use Rattle.edit_upgrade.specs.Lists.{HasRowLists};
 ghost use Rattle.edit_upgrade.specs.Drafts.{AreGiven};
-ghost use Rattle.edit_upgrade.specs.Revisions.{AreRowsOf, HasRowAddresses, HasRowEach, HasRevisedOutputs};
+ghost use Rattle.edit_upgrade.specs.Revisions.{AddsAddresses, AreEntriesOf, AreFirstOutputs, AreRowsOf, HasEnoughRows, HasItsAddress, HasRowAddresses, HasRowEach, HasRevisedOutputs, HaveAddresses, IsAddressOf, IsManifest};
 
 use crate::address_caches::{AddressCaches, keep_addresses, take_addresses};
 use crate::addresses::Addresses;
@@ -42,7 +43,12 @@ fn input_entries(
     alloc: Global,
     input: &Input,
     document: Option<&Document>,
-) -> CargoResult<Vec<Entry>> {
+) -> CargoResult<Vec<Entry>>
+    requires document { IfSome (option_copied document) (λ d. d.bytes ≡ input.now.bytes.items) }
+    requires manifest { IsManifest input.now.bytes.items }
+    ensures entries { IfOk result (λ es. AreEntriesOf input.now.bytes.items (map row_entry_view es.items)) }
+    ensures error { IfErr result IsMemory }
+{
     match document {
         Some(document) => row_entries(alloc, document),
         None => {
@@ -57,7 +63,14 @@ fn address_of(
     alloc: Global,
     entry: &Entry,
     addresses: &mut Addresses<'_>,
-) -> CargoResult<Option<String>> {
+) -> CargoResult<Option<String>>
+    requires addresses { AreAddresses addresses.old.configs.now addresses.old }
+    requires resolved { HasItsAddress addresses.old.configs.now (row_entry_view entry.now) }
+    ensures addresses { OnOk result (AreAddresses addresses.old.configs.now addresses.new) }
+    ensures address { IfOk result (λ o. IsAddressOf addresses.old.configs.now (row_entry_view entry.now)
+        (option_map string_bytes o)) }
+    ensures error { IfErr result IsMemory }
+{
     let registry = match &entry.source {
         Source::Registry(named) => named.as_deref(),
         Source::Git | Source::Path => return Ok(None),
@@ -75,7 +88,14 @@ fn push_addresses(
     entries: &[Entry],
     addresses: &mut Addresses<'_>,
     found: &mut Vec<Option<String>>,
-) -> CargoResult<()> {
+) -> CargoResult<()>
+    requires addresses { AreAddresses addresses.old.configs.now addresses.old }
+    requires resolved { All (HasItsAddress addresses.old.configs.now) (map row_entry_view entries.now) }
+    ensures addresses { OnOk result (AreAddresses addresses.old.configs.now addresses.new) }
+    ensures found { OnOk result (AddsAddresses addresses.old.configs.now (map row_entry_view entries.now)
+        (map (option_map string_bytes) found.old.items) (map (option_map string_bytes) found.new.items)) }
+    ensures error { IfErr result IsMemory }
+{
     'entries: for entry in entries {
         let address = address_of(alloc, entry, addresses)?;
         found.push(address)?;
@@ -96,8 +116,10 @@ pub fn row_addresses(
     requires configurations { length which.now ≡ length inputs.now }
     requires lists { AreIndices lists.now which.now }
     requires documents { AreGiven inputs.now documents.now }
+    requires resolved { HaveAddresses inputs.now (chosen_lists lists.now which.now) }
     ensures addresses { IfOk result (λ v. HasRowAddresses inputs.now (chosen_lists lists.now which.now)
         (map (option_map string_bytes) v.items)) }
+    ensures error { IfErr result IsMemory }
 {
     let configs = ConfigLists {
         lists,
@@ -121,7 +143,12 @@ fn document_outputs(
     input: &Input,
     document: &Document,
     rows: &[Row],
-) -> CargoResult<(Vec<Output>, usize)> {
+) -> CargoResult<(Vec<Output>, usize)>
+    requires document { document.now.bytes ≡ input.now.bytes.items }
+    requires rows { HasEnoughRows input.now.bytes.items rows.now }
+    ensures outputs { IfOk result (λ r. AreFirstOutputs input.now rows.now r.0.items r.1) }
+    ensures error { IfErr result IsMemory }
+{
     let entries = row_entries(alloc, document)?;
     let count = entries.len().min(rows.len());
     let text = edited_text(alloc, document, &entries, &rows[..count])?;
@@ -135,7 +162,12 @@ fn input_outputs(
     input: &Input,
     document: Option<&Document>,
     rows: &[Row],
-) -> CargoResult<(Vec<Output>, usize)> {
+) -> CargoResult<(Vec<Output>, usize)>
+    requires document { IfSome (option_copied document) (λ d. d.bytes ≡ input.now.bytes.items) }
+    requires rows { HasEnoughRows input.now.bytes.items rows.now }
+    ensures outputs { IfOk result (λ r. AreFirstOutputs input.now rows.now r.0.items r.1) }
+    ensures error { IfErr result IsMemory }
+{
     match document {
         Some(document) => document_outputs(alloc, input, document, rows),
         None => {
@@ -152,7 +184,10 @@ fn revised_outputs(
     documents: &[Document],
     rows: &[Row],
 ) -> CargoResult<Vec<Output>>
+    requires documents { AreGiven inputs.now documents.now }
+    requires rows { AreRowsOf inputs.now rows.now }
     ensures outputs { IfOk result (λ v. HasRevisedOutputs inputs.now rows.now v.items) }
+    ensures error { IfErr result IsMemory }
 {
     let mut all = Vec::new(alloc);
     let mut from = 0;

@@ -3,7 +3,7 @@ ghost use Rattle.std.specs.Prelude.{◌≡◌, ◌⊎◌, IfErr, IfOk, length, m
 ghost use Rattle.edit_base.specs.Errors.{IsMemory};
 ghost use Rattle.edit_steps.specs.Shared.{HasLists, lists_for};
 ghost use Rattle.edit_steps.specs.Sources.{AreDocuments};
-ghost use Rattle.edit_upgrade.specs.Revisions.{AreRowsOf};
+ghost use Rattle.edit_upgrade.specs.Revisions.{AreRowsOf, HaveAddresses};
 ghost use Rattle.edit_program.specs.Revising.{IsRevised, IsRevisionError};
 
 use crate::upgrade_run::choosing::choose_plan;
@@ -36,6 +36,7 @@ pub(crate) fn revise(
     requires lists { HasLists configs.now }
     requires documents { AreDocuments target.now.documents.items target.now.inputs.items }
     requires rows { AreRowsOf target.now.inputs.items plan.rows.items }
+    requires resolved { HaveAddresses target.now.inputs.items (lists_for configs.now) }
     ensures revised { IfOk result (λ r. IsRevised args.now target.now.inputs.items (lists_for configs.now) plan
         r.plan (map string_bytes r.apart.items)) }
     ensures error { IfErr result (λ e. IsMemory e
