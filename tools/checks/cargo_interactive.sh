@@ -15,7 +15,7 @@ answered() { # STATUS ANSWER ARGUMENTS
 }
 listed() { # the numbered rows stand first on standard output
   head -n 2 "$room/out" | diff - <(printf '%s\n' '1  Cargo.toml  dep: 1.0 -> 1.2 (compatible), latest 2.0.0 (incompatible)' \
-    '2  Cargo.toml  other: 0.2.0 -> 0.2.5 (compatible)') > "$room/log" || fail "$(cat "$room/log")"
+    '2  Cargo.toml  other: 0.2.0 -> 0.2.5 (compatible), latest 0.3.0 (incompatible)') > "$room/log" || fail "$(cat "$room/log")"
   says 'Rows to change (as 1,3-5, names, all, none): '
 }
 
