@@ -1,5 +1,5 @@
 -- Rows of which only the chosen ones change.
-use Rattle.std.specs.Prelude.{◌≡◌, ◌&&◌, ℕ, suc, List, [], ◌∷◌, Bool, Option, Some, None, decimal, filter, if◌then◌else◌, is_some, length, nat_le, option_map, string_bytes, ⊤}
+use Rattle.std.specs.Prelude.{◌≡◌, ◌&&◌, ℕ, suc, List, [], ◌∷◌, Bool, Option, Some, None, decimal, filter, false, if◌then◌else◌, is_some, length, nat_le, not, option_map, string_bytes, true, ⊤}
 use Rattle.std.specs.List.{filter_map, list_any}
 use Rattle.std.specs.Str.{bytes_eq}
 use Rattle.edit_report.specs.declared.row.Row.{Row}
@@ -22,15 +22,18 @@ pub record IsUnchanged (row after : Row) : Type 0 where
   pub latest : after.latest ≡ row.latest
   pub reason : after.reason ≡ row.reason
 
+-- a row whose change is taken back, or that is as it was (own)
+abbrev pub IsTaken : Bool → Row → Row → Type 0
+IsTaken true row after = IsUnchanged row after
+IsTaken false row after = after ≡ row
+
 -- the rows from the one on with this number less one: a row without a change stays, one with a change is
 -- numbered, and stays if it is chosen, else its change is taken back
 abbrev pub AreChosenFrom : RowChoice → ℕ → List Row → List Row → Type 0
 AreChosenFrom choice n [] [] = ⊤
 AreChosenFrom choice n (row ∷ rows) (a ∷ after) =
-    if is_some row.change
-    then ((if is_chosen choice (suc n) (string_bytes row.name) then a ≡ row else IsUnchanged row a)
-    × AreChosenFrom choice (suc n) rows after)
-    else ((a ≡ row) × AreChosenFrom choice n rows after)
+    IsTaken (is_some row.change && not (is_chosen choice (suc n) (string_bytes row.name))) row a
+    × AreChosenFrom choice (if is_some row.change then suc n else n) rows after
 AreChosenFrom choice n rows after = ⊥
 
 -- of the rows only the chosen ones change, numbered from 1

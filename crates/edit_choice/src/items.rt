@@ -20,7 +20,7 @@ pub enum RowChoice<'a> {
 
 /// Whether an item chooses the row with this number and name.
 pub(crate) fn is_chosen_by(item: RowItem<'_>, number: u64, name: &str) -> bool
-    ensures { result ≡ is_chosen_by item number name.now }
+    ensures { result ≡ is_chosen_by item.entry number name.now }
 {
     match item {
         RowItem::Numbers(first, last) => first <= number && number <= last,

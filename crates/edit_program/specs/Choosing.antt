@@ -1,8 +1,8 @@
 -- A plan of which only the chosen rows change.
-use Rattle.std.specs.Prelude.{◌≡◌, ◌≢◌, ◌⊎◌, ℕ, List, [], Option, Some, None, map, string_bytes}
+use Rattle.std.specs.Prelude.{◌≡◌, ◌≢◌, ℕ, List, [], Option, Some, None, map, string_bytes}
 use Rattle.edit_base.specs.declared.errors.Error.{Error}
 use Rattle.edit_base.specs.declared.errors.Error.TheVariants.{DependenciesMissing}
-use Rattle.edit_base.specs.declared.errors.details.MissingNames.{MissingNames}
+use Rattle.edit_base.specs.declared.errors.MissingKind.TheVariants as kind
 use Rattle.edit_metadata.specs.declared.input.Input.{Input}
 use Rattle.edit_report.specs.declared.row.Row.{Row}
 use Rattle.edit_upgrade.specs.Lists.{HasRowLists}
@@ -27,9 +27,13 @@ abbrev pub IsChosenOrSame : Option RowChoice → List Input → UpgradePlan → 
 IsChosenOrSame (Some choice) inputs whole p = IsChosenPlan choice inputs whole p
 IsChosenOrSame None inputs whole p = p ≡ whole
 
+-- the error has these texts of rows that are not there
+abbrev pub AreRowsListedIn : List (List ℕ) → Error → Type 0
+AreRowsListedIn missing (DependenciesMissing list) =
+    (list.kind ≡ kind.Row) × (map string_bytes list.names.items ≡ missing)
+AreRowsListedIn missing other = ⊥
+
 -- the choice has a number or a name of a row that is not there, and the error lists these
-pub record IsMissingRow (choice : RowChoice) (rows : List Row) (e : Error) : Type 0 where
-  pub some : missing_texts choice rows ≢ []
-  pub names : MissingNames
-  pub error : e ≡ DependenciesMissing names
-  pub are : map string_bytes names.names.items ≡ missing_texts choice rows
+abbrev pub IsMissingRow : RowChoice → List Row → Error → Type 0
+IsMissingRow choice rows e =
+    (missing_texts choice rows ≢ []) × AreRowsListedIn (missing_texts choice rows) e

@@ -1,5 +1,5 @@
 -- A plan with one requirement for each crate of a registry in each compatible range.
-use Rattle.std.specs.Prelude.{◌≡◌, ℕ, Bool, List, [], Option, if◌then◌else◌}
+use Rattle.std.specs.Prelude.{◌≡◌, ℕ, Bool, List, [], Option, false, true}
 use Rattle.std.specs.Global.{Vec}
 use Rattle.edit_metadata.specs.declared.input.Input.{Input}
 use Rattle.edit_sources.specs.declared.config.Config.{Config}
@@ -26,6 +26,6 @@ pub record IsUnifiedOver (level : Option Level) (inputs : List Input) (configs :
 -- a unified plan where that is requested, else the same one and no addresses
 abbrev pub IsUnifiedOrSame : Bool → Option Level → List Input → List (Vec Config) → UpgradePlan → UpgradePlan
     → List (Option (List ℕ)) → Type 0
-IsUnifiedOrSame unify level inputs configs single p addresses =
-    if unify then IsUnifiedOver level inputs configs single p addresses
-    else ((p ≡ single) × (addresses ≡ []))
+IsUnifiedOrSame true level inputs configs single p addresses =
+    IsUnifiedOver level inputs configs single p addresses
+IsUnifiedOrSame false level inputs configs single p addresses = (p ≡ single) × (addresses ≡ [])

@@ -13,7 +13,7 @@ use Rattle.edit_unify.specs.declared.ranges.Numbers.{Numbers}
 
 -- the numbers of a caret comparator: a major number, and those that stand behind it
 abbrev pub Caret : Type 0
-Caret = ℕ × (Option ℕ × Option ℕ)
+Caret = ℕ × Option ℕ × Option ℕ
 
 -- the numbers of the program's type (own)
 abbrev pub numbers_of : Numbers → Caret

@@ -44,8 +44,8 @@ stand_of address row =
 
 -- what each row requires, with the addresses of their registries
 abbrev pub stands_of : List (Option (List ℕ)) → List Row → List (Option Required)
-stands_of (a ∷ as) (row ∷ rows) = stand_of a row ∷ stands_of as rows
-stands_of as rows = []
+stands_of (address ∷ addresses) (row ∷ rows) = stand_of address row ∷ stands_of addresses rows
+stands_of addresses rows = []
 
 -- two rows require one crate of one registry
 abbrev pub is_same_crate : Required → Required → Bool

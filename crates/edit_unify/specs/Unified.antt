@@ -1,5 +1,5 @@
 -- Rows with one requirement for each crate of a registry in each compatible range.
-use Rattle.std.specs.Prelude.{◌≡◌, ℕ, List, [], ◌∷◌, true, Contains, Option, Some, None, if◌then◌else◌, false, map, option_and_then, option_map, string_bytes, ⊤}
+use Rattle.std.specs.Prelude.{◌≡◌, ℕ, List, [], ◌∷◌, Bool, true, Contains, Option, Some, None, if◌then◌else◌, false, map, option_and_then, option_map, string_bytes, ⊤}
 use Rattle.std.specs.Str.{bytes_eq}
 use Rattle.std.specs.Option.{option_map_or}
 use Rattle.edit_report.specs.declared.row.Change.{Change}
@@ -55,10 +55,11 @@ pub record IsHighest (level : Option Level) (own : Required) (stands : List (Opt
 abbrev pub IsUnified : Option Level → List (Option Required) → Option Required → Row → Row → Type 0
 IsUnified level stands None row after = after ≡ row
 IsUnified level stands (Some own) row after =
-    (text : List ℕ) × IsHighest level own stands text × IsRowWith text own row after
+    (text : List ℕ) × IsHighest level own stands text × IsRowWith (bytes_eq text own.text) text row after
   where
-    IsRowWith : List ℕ → Required → Row → Row → Type 0
-    IsRowWith text own row after = if bytes_eq text own.text then (after ≡ row) else IsWithText text row after
+    IsRowWith : Bool → List ℕ → Row → Row → Type 0
+    IsRowWith true text row after = after ≡ row
+    IsRowWith false text row after = IsWithText text row after
 
 -- one row for each, in order: unified with those that are together with it
 abbrev pub AreUnified : Option Level → List (Option (List ℕ)) → List Row → List Row → Type 0

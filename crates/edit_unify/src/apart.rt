@@ -14,7 +14,7 @@ use std::collections::BTreeSet;
 
 /// Whether two rows require one crate of one registry in two compatible ranges.
 fn is_apart_from(a: &Stand<'_>, b: Option<Stand<'_>>) -> bool
-    ensures { result ≡ is_apart_from (stand_view a.now) (option_map stand_view b) }
+    ensures { result ≡ is_apart_from (stand_view a.now) (option_map stand_view b.entry) }
 {
     match b {
         Some(b) => is_same_crate(a, &b) && !is_same_range(a.numbers, b.numbers),

@@ -14,7 +14,7 @@ fn is_better(
     best: Option<Stand<'_>>,
     other: &Stand<'_>,
 ) -> bool
-    ensures { result ≡ is_better level (stand_view own.now) (option_map stand_view best)
+    ensures { result ≡ is_better level (stand_view own.now) (option_map stand_view best.entry)
         (stand_view other.now) }
 {
     if !is_together(level, own, other) {

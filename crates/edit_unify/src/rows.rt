@@ -19,7 +19,7 @@ fn taken_text(
     stands: &[Option<Stand<'_>>],
 ) -> Result<Option<String>, AllocError>
     ensures { IfOk result (λ o. option_map string_bytes o
-        ≡ taken_text level (option_map stand_view own) (map (option_map stand_view) stands.now)) }
+        ≡ taken_text level (option_map stand_view own.entry) (map (option_map stand_view) stands.now)) }
 {
     let Some(own) = own else {
         return Ok(None);
