@@ -61,7 +61,9 @@ fn needs_now(matches: &ArgMatches<'_>) -> bool {
 
 /// Whether the script reads which rows to change: with `--interactive`, unless they are given.
 fn asks(matches: &ArgMatches<'_>) -> bool {
-    let interactive = matches.get_str("interactive").is_some_and(|given| given == "true");
+    let interactive = matches
+        .get_str("interactive")
+        .is_some_and(|given| given == "true");
     interactive && matches.get_str("rows").is_none()
 }
 

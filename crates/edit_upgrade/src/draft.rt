@@ -82,7 +82,11 @@ pub(crate) fn push_all<T: Drop>(list: &mut Vec<T>, own: Vec<T>) -> Result<(), Al
 }
 
 /// The output for the manifest at a path: none where its text does not change.
-pub(crate) fn outputs_of(alloc: Global, path: &str, text: Option<String>) -> Result<Vec<Output>, AllocError>
+pub(crate) fn outputs_of(
+    alloc: Global,
+    path: &str,
+    text: Option<String>,
+) -> Result<Vec<Output>, AllocError>
     ensures ok { IfOk result (λ v. MatchOption text (v.items ≡ [])
         (λ s. IsOnlyOutput path.now (string_bytes s) v.items)) }
 {
