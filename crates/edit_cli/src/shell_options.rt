@@ -59,6 +59,14 @@ fn needs_now(matches: &ArgMatches<'_>) -> bool {
     matches.get_str("min-age").is_some() && matches.get_str("now").is_none()
 }
 
+/// Whether the script reads which rows to change: with `--interactive`, unless they are given.
+fn asks(matches: &ArgMatches<'_>) -> bool {
+    let interactive = matches
+        .get_str("interactive")
+        .is_some_and(|given| given == "true");
+    interactive && matches.get_str("rows").is_none()
+}
+
 /// The value of `--color` as cargo takes it; empty where it is not given, or has another value.
 fn color_text(color: Option<&str>) -> &'static str {
     match color {
@@ -91,7 +99,8 @@ fn push_options(text: &mut Vec<u8>, matches: &ArgMatches<'_>) -> Result<(), Allo
     )?;
     push_assignment(text, "dry", flag_text(dry, "yes"))?;
     push_assignment(text, "age", flag_text(needs_now(matches), "yes"))?;
-    push_assignment(text, "color", color_text(matches.get_str("color")))
+    push_assignment(text, "color", color_text(matches.get_str("color")))?;
+    push_assignment(text, "ask", flag_text(asks(matches), "yes"))
 }
 
 /// The arguments of a subcommand, with metadata in place of those that the script adds.

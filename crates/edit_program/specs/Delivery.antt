@@ -1,5 +1,5 @@
 -- A plan for inputs, and how it is printed and written.
-use Rattle.std.specs.Prelude.{ℕ, Bool, List, [], Option, Some, None, option_map}
+use Rattle.std.specs.Prelude.{ℕ, Bool, List, [], Option, Some, None, map, option_map, string_bytes}
 use Rattle.std.specs.Option.{option_map_or}
 use Rattle.edit_upgrade.specs.declared.decision.options.Options.{Options}
 use Rattle.edit_lock.specs.LockFile.{Package}
@@ -24,10 +24,11 @@ abbrev pub calls_against : Option (List Package) → Bool → List Call → List
 calls_against None offline calls = calls
 calls_against (Some packages) offline calls = adapt_calls (changes packages packages) offline calls
 
--- a plan for inputs with its options, the folder and the format that it is printed in, the calls that
+-- a plan for inputs, the crates that it leaves in more than one compatible range, its options, the folder and the format that it is printed in, the calls that
 -- follow, and the path of the file for them
 pub record Delivery : Type 0 where
   pub plan : UpgradePlan
+  pub apart : List (List ℕ)
   pub inputs : List Input
   pub options : Options
   pub current : List ℕ
@@ -40,6 +41,7 @@ pub record Delivery : Type 0 where
 abbrev pub delivery_of : DeliveryTask → Delivery
 delivery_of task = record {
   plan = task.plan.now;
+  apart = map string_bytes task.apart.now;
   inputs = task.inputs.now;
   options = task.options.now;
   current = task.root.now;

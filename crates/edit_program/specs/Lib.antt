@@ -8,6 +8,7 @@ pub mod Merged
 pub mod Presented
 pub mod Run
 pub mod Runs
+pub mod ParsedRows
 pub mod ParsedUpgrade
 pub mod ParsedSetVersion
 pub mod LockRead
@@ -26,6 +27,9 @@ pub mod Tables
 pub mod Delivery
 pub mod PrintedPlan
 pub mod CallsFile
+pub mod Unifying
+pub mod Choosing
+pub mod Revising
 pub mod StderrText
 pub mod Delivered
 pub mod DeliveryCauses

@@ -1,5 +1,5 @@
 -- The options that parsed arguments give.
-use Rattle.std.specs.Prelude.{◌≡◌, ◌⊎◌, ◌||◌, ◌-◌, ℕ, ℤ, Bool, List, [], Option, Some, None, true, false, codes, if◌then◌else◌, min, nat_lt, negsuc, option_map, pos, unwrap_or}
+use Rattle.std.specs.Prelude.{◌≡◌, ◌⊎◌, ◌&&◌, ◌||◌, ◌-◌, ℕ, ℤ, Bool, List, [], Option, Some, None, true, false, codes, if◌then◌else◌, is_some, min, nat_lt, not, negsuc, option_map, pos, unwrap_or}
 use Rattle.std.specs.Str.{bytes_eq}
 use Rattle.clap.specs.Words.{Row, Text, all_of, count_of, first_of}
 use Rattle.edit_upgrade.specs.declared.decision.options.Options.{Options}
@@ -17,9 +17,13 @@ values_of id rows = unwrap_or (all_of id rows) []
 abbrev pub is_given : Text → List Row → Bool
 is_given id rows = bytes_eq (value_of id [] rows) (codes "true")
 
--- whether no file is written: with `--dry-run`, and with `--check`
+-- whether only the rows that would change are listed: with `--interactive`, unless `--rows` says which change
+abbrev pub lists_rows : List Row → Bool
+lists_rows rows = is_given (codes "interactive") rows && not (is_some (first_of (codes "rows") rows))
+
+-- whether no file is written: with `--dry-run`, with `--check`, and where only rows are listed
 abbrev pub is_dry : List Row → Bool
-is_dry rows = is_given (codes "dry-run") rows || is_given (codes "check") rows
+is_dry rows = is_given (codes "dry-run") rows || (is_given (codes "check") rows || lists_rows rows)
 
 -- whether a value allows or ignores a kind of upgrade; none for other values
 abbrev pub status_of_value : Text → Option Bool

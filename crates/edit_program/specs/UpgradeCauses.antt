@@ -11,6 +11,7 @@ use Rattle.edit_sources.specs.Configured.{given}
 use Rattle.edit_sources.specs.Index.{IndexView}
 use Rattle.edit_store.specs.Store.{Files, IsCallError, SameFiles, StoreView}
 use Rattle.edit_upgrade.specs.declared.decision.options.Options.{Options}
+use Rattle.edit_upgrade.specs.declared.upgrade.UpgradePlan.{UpgradePlan}
 use Rattle.edit_steps.specs.RequestView.{RequestView}
 use Rattle.edit_steps.specs.Causes.{IsFailure, HasBadSources}
 use Rattle.edit_steps.specs.Shared.{lists_for}
@@ -18,7 +19,8 @@ use Rattle.edit_steps.specs.Sources.{AreRead}
 use Rattle.edit_steps.specs.declared.upgrade_read.sources.Sources.{Sources}
 use Rattle.edit_program.specs.Planned.{IsPlanCause, to_request, to_lookup_request, upgrade_index}
 use Rattle.edit_program.specs.Run.{Run}
-use Rattle.edit_program.specs.Upgrading.{IsPlannedTo}
+use Rattle.edit_program.specs.Revising.{IsRevisionError}
+use Rattle.edit_program.specs.Upgrading.{IsPlannedFor, IsPlannedTo, IsRead}
 use Rattle.edit_program.specs.declared.upgrade_run.upgrade_args.UpgradeArgs.{UpgradeArgs}
 use Rattle.edit_program.specs.DeliveryCauses.{IsStopped}
 
@@ -46,12 +48,28 @@ IsUnplanned args current home local files e =
     ⊎ (HasBadSources files current home (to_request args) e
     ⊎ HasNoUpgradePlan args current home local files e)
 
--- the cause in the given files: there is no plan, and each file is unchanged; or the plan is not carried
--- out
+-- the given files were read and planned, and a row is chosen that the plan has not
+pub record HasNoChosenPlan (args : UpgradeArgs) (current : List ℕ) (home : Option (List ℕ))
+    (local : StoreView) (files : Files) (e : Error) : Type 0 where
+  pub sources : Sources
+  pub lock : Option (List Package)
+  pub single : UpgradePlan
+  pub read : IsRead args current home files sources
+  pub locked : IsLockRead args.to_lockfile files current (given args.lock_file) lock
+  pub planned : IsPlannedFor args sources lock local single
+  pub missing : IsRevisionError args sources.target.inputs.items (lists_for sources.configs) single e
+
+-- the cause of an error before a file is written: there is no plan, or a row is chosen that it has not
+abbrev pub IsUnprepared : UpgradeArgs → List ℕ → Option (List ℕ) → StoreView → Files → Error → Type 0
+IsUnprepared args current home local files e =
+    IsUnplanned args current home local files e ⊎ HasNoChosenPlan args current home local files e
+
+-- the cause in the given files: there is no plan to carry out, and each file is unchanged; or the plan is not
+-- carried out
 abbrev pub IsUnfit : (List ℕ → Type 0) → UpgradeArgs → Run → Error → Type 0
 IsUnfit Prints args run e =
     (SameFiles run.old.file_at run.new.file_at
-    × IsUnplanned args run.current run.home run.index_files run.old.file_at e)
+    × IsUnprepared args run.current run.home run.index_files run.old.file_at e)
     ⊎ IsPlannedTo (λ d. IsStopped Prints d run.old run.new e) args run.current run.home run.index_files
     run.old.file_at
 

@@ -1,5 +1,5 @@
 -- The files that an upgrade reads and writes, and its plan.
-use Rattle.std.specs.Prelude.{◌≡◌, ℕ, List, Bool, if◌then◌else◌, not, ◌==◌, Option, Some, None, length, option_map, ⊤}
+use Rattle.std.specs.Prelude.{◌≡◌, ℕ, List, Bool, ◌&&◌, ◌||◌, if◌then◌else◌, is_some, not, ◌==◌, Option, Some, None, length, option_map, ⊤}
 use Rattle.edit_lock.specs.LockFile.{Package}
 use Rattle.std.specs.Option.{option_map_or}
 use Rattle.edit_metadata.specs.Metadata.{WorkspaceModel}
@@ -18,6 +18,7 @@ use Rattle.edit_program.specs.Delivered.{IsDeliveryInterrupted, IsDelivered}
 use Rattle.edit_program.specs.Delivery.{Delivery, calls_against, calls_of}
 use Rattle.edit_program.specs.LockRead.{IsLockRead}
 use Rattle.edit_program.specs.Run.{Run}
+use Rattle.edit_program.specs.Revising.{IsRevised}
 use Rattle.edit_program.specs.StderrText.{upgrade_stderr_text}
 
 -- the given files were read
@@ -42,44 +43,52 @@ IsPathOf current _ _ = ⊥
 abbrev pub diff_root : List ℕ → Option WorkspaceModel → List ℕ
 diff_root current workspace = option_map_or (λ w. w.root) workspace current
 
--- the workspace for which calls of `cargo update` follow: none with `--to-lockfile`, which leaves the lock
--- file as it is
+-- the plan changes a manifest
+abbrev pub has_outputs : UpgradePlan → Bool
+has_outputs plan = not (length plan.outputs.items == 0)
+
+-- the lock file is left as it is: with `--to-lockfile`, and where no row is chosen
+abbrev pub keeps_lock : UpgradeArgs → UpgradePlan → Bool
+keeps_lock args plan = args.to_lockfile || (is_some args.rows && not (has_outputs plan))
+
+-- the workspace for which calls of `cargo update` follow: none where the lock file is left as it is
 abbrev pub called_workspace : Bool → Option WorkspaceModel → Option WorkspaceModel
-called_workspace to_lockfile workspace = if to_lockfile then None else workspace
+called_workspace keeps_lock workspace = if keeps_lock then None else workspace
 
 -- a plan for these manifests, as the arguments request it to be printed, with this path for the file of the
 -- calls, which are adapted to the lock file with these packages, where there is one
-abbrev pub delivery_by : UpgradeArgs → List ℕ → UpgradePlan → Target → Option (List ℕ) → Option (List Package)
-    → Delivery
-delivery_by args current plan target path lock = record {
+abbrev pub delivery_by : UpgradeArgs → List ℕ → UpgradePlan → List (List ℕ) → Target → Option (List ℕ)
+    → Option (List Package) → Delivery
+delivery_by args current plan apart target path lock = record {
   plan = plan;
+  apart = apart;
   inputs = target.inputs.items;
   options = args.options;
   current = diff_root current (option_map workspace_view target.workspace);
   presentation = args.presentation;
   calls = calls_against lock args.offline
       (calls_of plan args.options
-      (called_workspace args.to_lockfile (option_map workspace_view target.workspace)));
+      (called_workspace (keeps_lock args plan) (option_map workspace_view target.workspace)));
   calls_path = path;
   offline = args.offline;
 }
 
--- the given files were read and planned, and this holds of the plan with the request to print and write it
+-- the given files were read and planned, the plan is unified and restricted to chosen rows where that is
+-- requested, and this holds of it with the request to print and write it
 pub record IsPlannedTo (Ends : Delivery → Type 0) (args : UpgradeArgs) (current : List ℕ)
     (home : Option (List ℕ)) (local : StoreView) (files : Files) : Type 0 where
   pub sources : Sources
+  pub single : UpgradePlan
   pub plan : UpgradePlan
+  pub apart : List (List ℕ)
   pub path : Option (List ℕ)
   pub lock : Option (List Package)
   pub read : IsRead args current home files sources
-  pub planned : IsPlannedFor args sources lock local plan
+  pub planned : IsPlannedFor args sources lock local single
+  pub revised : IsRevised args sources.target.inputs.items (lists_for sources.configs) single plan apart
   pub at : IsPathOf current (given args.update_calls) path
   pub locked : IsLockRead args.to_lockfile files current (given args.lock_file) lock
-  pub ends : Ends (delivery_by args current plan sources.target path lock)
-
--- the plan changes a manifest
-abbrev pub has_outputs : UpgradePlan → Bool
-has_outputs plan = not (length plan.outputs.items == 0)
+  pub ends : Ends (delivery_by args current plan apart sources.target path lock)
 
 -- a plan is printed and written, and the flag is set where it changes a manifest
 pub record IsUpgradeResult (due : Bool)

@@ -1,7 +1,7 @@
 //! Values of options in parsed arguments.
 ghost use Rattle.std.specs.Prelude.{◌≡◌, ◌||◌, IfOk, is_some, map, string_bytes};
 ghost use Rattle.clap.specs.Words.{first_of, found_of, rows_of};
-ghost use Rattle.edit_program.specs.ParsedOptions.{is_given, values_of};
+ghost use Rattle.edit_program.specs.ParsedOptions.{is_given, lists_rows, values_of};
 
 use clap::ArgMatches;
 use std::alloc::{AllocError, Global};
@@ -29,6 +29,14 @@ pub(crate) fn has_value(matches: &ArgMatches<'_>, id: &str) -> bool
     ensures { result ≡ is_some (first_of id.now (rows_of (found_of matches.now))) }
 {
     matches.get_str(id).is_some()
+}
+
+/// Whether only the rows that would change are listed: with `--interactive`, unless `--rows` says which of
+/// them change.
+pub(crate) fn lists_rows(matches: &ArgMatches<'_>) -> bool
+    ensures { result ≡ lists_rows (rows_of (found_of matches.now)) }
+{
+    is_given(matches, "interactive") && !has_value(matches, "rows")
 }
 
 /// Copies texts into newly allocated memory.

@@ -4,6 +4,7 @@ ghost use Rattle.std.specs.Str.{bytes_eq};
 ghost use Rattle.clap.specs.Words.{first_of, found_of, rows_of};
 ghost use Rattle.edit_program.specs.declared.args_error.ArgsError.TheVariants as parse_error;
 ghost use Rattle.edit_program.specs.ParsedOptions.{HasOptions, HasBadStatus, is_given, status_of, status_of_value, verbosity_of};
+ghost use Rattle.edit_program.specs.ParsedRows.{HasNoRowChoice, HasRowChoice, HasRowFault, IsRowChoice};
 ghost use Rattle.edit_program.specs.ParsedUpgrade.{HasUpgradeArgs, HasNoRust, HaveUpgradeFault, IsRust, has_lockfile_fault, has_two_indexes, level_in, level_of, level_of_value};
 
 use crate::args_error::{ArgsError, ArgsFault};
@@ -13,6 +14,7 @@ use crate::publication_bound::publication_bound;
 use crate::upgrade_run::UpgradeArgs;
 use clap::ArgMatches;
 use edit_base::Error;
+use edit_choice::RowChoice;
 use edit_steps::upgrade_read::RustChoice;
 use edit_upgrade::Options;
 use edit_version::{Level, RustVersion};
@@ -194,6 +196,41 @@ fn to_lockfile<'a>(matches: &ArgMatches<'a>, incompatible: bool) -> Result<bool,
     Ok(true)
 }
 
+/// The choice of rows that a text is; a text that is none is an error.
+fn named_rows<'a>(alloc: Global, text: &'a str) -> Result<Option<RowChoice<'a>>, ArgsError<'a>>
+    ensures ok { IfOk result (IsRowChoice (Some text.entry.now)) }
+    ensures error { IfErr result (λ e. e ≢ parse_error.Memory → HasNoRowChoice (Some text.entry.now)) }
+{
+    match RowChoice::parse(alloc, text)? {
+        Some(choice) => Ok(Some(choice)),
+        None => Err(ArgsError::Fault(ArgsFault::Invalid(
+            "rows",
+            "ROWS",
+            text,
+            "not numbers from 1 on as 1,3-5, names of crates, all or none",
+        ))),
+    }
+}
+
+/// The rows that are chosen, where that is requested; an error for a text that is no choice, and for
+/// `--interactive` with `--check`.
+fn row_choice<'a>(
+    alloc: Global,
+    matches: &ArgMatches<'a>,
+) -> Result<Option<RowChoice<'a>>, ArgsError<'a>>
+    ensures ok { IfOk result (HasRowChoice (rows_of (found_of matches.now))) }
+    ensures error { IfErr result (λ e. e ≢ parse_error.Memory
+        → HasRowFault (rows_of (found_of matches.now))) }
+{
+    if is_given(matches, "interactive") && is_given(matches, "check") {
+        return Err(ArgsError::Fault(ArgsFault::Together("--interactive", "--check")));
+    }
+    match matches.get_str("rows") {
+        Some(text) => named_rows(alloc, text),
+        None => Ok(None),
+    }
+}
+
 /// The options and paths that parsed arguments of `upgrade` give.
 pub(crate) fn parse_upgrade_args<'a>(
     alloc: Global,
@@ -216,6 +253,7 @@ pub(crate) fn parse_upgrade_args<'a>(
     let level = level_of(matches)?;
     let options = options_of(alloc, matches, level)?;
     let to_lockfile = to_lockfile(matches, options.incompatible)?;
+    let rows = row_choice(alloc, matches)?;
     Ok(UpgradeArgs {
         manifest_path: matches.get_str("manifest-path"),
         metadata_json: matches.get_str("metadata-json"),
@@ -231,5 +269,7 @@ pub(crate) fn parse_upgrade_args<'a>(
         offline: is_given(matches, "offline"),
         to_lockfile,
         published_before,
+        unify: is_given(matches, "unify"),
+        rows,
     })
 }

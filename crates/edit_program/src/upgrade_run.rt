@@ -1,9 +1,12 @@
 //! The command `upgrade`, over any files, any index and any writers.
 
+mod choosing;
 mod delivering;
 mod lookup_printing;
 mod plan;
 mod reading;
+mod revising;
+mod unifying;
 pub mod upgrade_args;
 mod upgrading;
 

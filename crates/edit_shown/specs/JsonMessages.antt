@@ -50,6 +50,7 @@ change_name None = None
 change_name (Some change.Explicit) = Some (codes "explicit")
 change_name (Some change.Latest) = Some (codes "latest")
 change_name (Some change.Compatible) = Some (codes "compatible")
+change_name (Some change.Unified) = Some (codes "unified")
 
 -- a row of a manifest's report (own)
 abbrev pub row_members : List ℕ → Row → MessageMembers

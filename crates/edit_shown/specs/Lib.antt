@@ -13,3 +13,4 @@ pub mod RequirementLines
 pub mod Annotations
 pub mod InputDocuments
 pub mod HeldBack
+pub mod Numbered

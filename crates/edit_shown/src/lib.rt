@@ -9,6 +9,7 @@ mod held_back;
 pub mod json;
 mod markdown;
 mod messages;
+mod numbered;
 mod paths;
 mod presentation;
 
@@ -18,4 +19,5 @@ pub use diffs::print_diffs;
 pub use held_back::{HeldBack, list_held_back};
 pub use markdown::print_markdown;
 pub use messages::print_messages;
+pub use numbered::print_numbered;
 pub use presentation::{MessageFormat, Presentation};

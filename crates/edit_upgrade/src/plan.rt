@@ -34,7 +34,7 @@ use edit_sources::{Config, Index};
 use std::alloc::Global;
 
 /// The document at an index, or `None` where the list is shorter.
-fn document_at(documents: &[Document], i: usize) -> Option<&Document>
+pub(crate) fn document_at(documents: &[Document], i: usize) -> Option<&Document>
     ensures { option_copied result ≡ slice_get documents.now i }
 {
     documents.get(i)

@@ -65,5 +65,12 @@ pub fn deliver<S: Store, O: io::Write, E: io::Write>(
         files,
         err,
     )?;
-    conclude(alloc, task.plan, task.options, task.offline, err)
+    conclude(
+        alloc,
+        task.plan,
+        task.apart,
+        task.options,
+        task.offline,
+        err,
+    )
 }

@@ -59,18 +59,19 @@ pub(crate) fn carry_out<S: Store, E: io::Write>(
 pub(crate) fn conclude<E: io::Write>(
     alloc: Global,
     plan: &UpgradePlan,
+    apart: &[String],
     options: &Options,
     offline: bool,
     err: &mut E,
 ) -> RunResult<()>
     ensures complete { OnOk result (map string_bytes plan.now.missing.items ≡ []) }
     ensures text { OnOk result (Appends (E.contents err.old) (E.contents err.new)
-        (notes plan.now options.now offline)) }
+        (notes plan.now (map string_bytes apart.now) options.now offline)) }
     ensures error { IfErr result (λ r. IsMemory r.error ⊎ ((r.error ≡ Unwritten)
         ⊎ ((map string_bytes plan.now.missing.items ≢ [])
         × AreListedIn (map string_bytes plan.now.missing.items) r.error))) }
 {
     check_names(alloc, plan)?;
-    print_notes(alloc, plan, options, offline, err)?;
+    print_notes(alloc, plan, apart, options, offline, err)?;
     Ok(())
 }

@@ -10,6 +10,8 @@ use edit_upgrade::{Options, UpgradePlan};
 #[derive(Clone, Copy)]
 pub struct DeliveryTask<'a> {
     pub plan: &'a UpgradePlan,
+    /// The crates that a unified plan leaves in more than one compatible range; empty for other plans.
+    pub apart: &'a [String],
     pub inputs: &'a [Input],
     /// The workspace for which calls follow: without one there are none.
     pub workspace: Option<&'a Workspace>,

@@ -3,6 +3,7 @@ ghost use Rattle.std.specs.Prelude.{◌≡◌};
 ghost use Rattle.edit_steps.specs.RequestView.{request_view};
 ghost use Rattle.edit_program.specs.Planned.{to_request, to_lookup_request};
 
+use edit_choice::RowChoice;
 use edit_shown::Presentation;
 use edit_sources::PublishedBefore;
 use edit_steps::upgrade_read::{RustChoice, SourceRequest};
@@ -37,6 +38,10 @@ pub struct UpgradeArgs<'a> {
     pub to_lockfile: bool,
     /// The time by which versions have to be published, where there is one.
     pub published_before: Option<PublishedBefore>,
+    /// Raise differing requirements of one crate in one compatible range to the highest of them.
+    pub unify: bool,
+    /// The rows that change, of those that would.
+    pub rows: Option<RowChoice<'a>>,
 }
 
 impl<'a> UpgradeArgs<'a> {

@@ -13,6 +13,7 @@ use crate::upgrade_output::deliver;
 use crate::upgrade_run::delivering::{delivery_task, has_outputs, path_of};
 use crate::upgrade_run::plan::{plan_for, restriction};
 use crate::upgrade_run::reading::{Readings, read};
+use crate::upgrade_run::revising::revise;
 use crate::upgrade_run::upgrade_args::UpgradeArgs;
 use edit_diagnostics::{explain_delivery, explain_upgrade};
 use edit_steps::RunResult;
@@ -72,10 +73,11 @@ pub fn upgrade<S: Store, T: Store + Drop, O: io::Write, E: io::Write>(
             return Err(explain_upgrade(alloc, error, &request, current, inputs, &configs, files));
         }
     };
+    let revised = revise(alloc, args, &target, &configs, plan)?;
     let path = named.as_deref();
-    let task = delivery_task(args, current, &target, &plan, path, lock);
+    let task = delivery_task(args, current, &target, &revised, path, lock);
     match deliver(alloc, &task, files, out, err) {
-        Ok(()) => Ok(has_outputs(&plan)),
-        Err(error) => Err(explain_delivery(alloc, error, &plan)),
+        Ok(()) => Ok(has_outputs(&revised.plan)),
+        Err(error) => Err(explain_delivery(alloc, error, &revised.plan)),
     }
 }

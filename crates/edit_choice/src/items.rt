@@ -1,0 +1,34 @@
+//! What chooses rows: numbers, ranges and names.
+ghost use Rattle.std.specs.Prelude.{◌≡◌};
+ghost use Rattle.edit_choice.specs.Choices.{is_chosen_by};
+
+/// A part of a choice: the rows of a range of numbers, or those of a crate.
+#[derive(Clone, Copy, Debug)]
+pub enum RowItem<'a> {
+    /// The first and the last number.
+    Numbers(u64, u64),
+    Name(&'a str),
+}
+
+/// A choice among the rows that change, which are numbered from 1 in their order.
+#[derive(Debug, Drop)]
+pub enum RowChoice<'a> {
+    All,
+    /// The rows that one of these chooses; none where there are none.
+    Items(Vec<RowItem<'a>>),
+}
+
+/// Whether an item chooses the row with this number and name.
+pub(crate) fn is_chosen_by(item: RowItem<'_>, number: u64, name: &str) -> bool
+    ensures { result ≡ is_chosen_by item.entry number name.now }
+{
+    match item {
+        RowItem::Numbers(first, last) => first <= number && number <= last,
+        RowItem::Name(chosen) => chosen == name,
+    }
+}
+
+/// Whether one of the items chooses the row with this number and name.
+pub(crate) fn is_chosen(items: &[RowItem<'_>], number: u64, name: &str) -> bool {
+    items.iter().any(|item| is_chosen_by(*item, number, name))
+}

@@ -1,0 +1,5 @@
+pub mod Ranges
+pub mod Stands
+pub mod Leaders
+pub mod Unified
+pub mod Apart
