@@ -22,3 +22,4 @@ pub mod DryRuns
 mod NameLemmas
 mod NoteLemmas
 mod PartLemmas
+mod PolicyLemmas

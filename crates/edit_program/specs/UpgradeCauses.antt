@@ -5,8 +5,8 @@ use Rattle.edit_base.specs.declared.errors.DeviceCall.TheVariants as call
 use Rattle.edit_base.specs.declared.errors.Error.{Error}
 use Rattle.edit_base.specs.declared.errors.Error.TheVariants.{Output as Unwritten}
 use Rattle.edit_program.specs.NoIndex.{no_view}
-use Rattle.edit_lock.specs.LockFile.{Package}
-use Rattle.edit_program.specs.LockRead.{HasNoLock, IsLockRead}
+use Rattle.edit_program.specs.Followed.{HasBadPolicy, IsReady}
+use Rattle.edit_program.specs.LockRead.{HasNoLock}
 use Rattle.edit_sources.specs.Configured.{given}
 use Rattle.edit_sources.specs.Index.{IndexView}
 use Rattle.edit_store.specs.Store.{Files, IsCallError, SameFiles, StoreView}
@@ -19,6 +19,7 @@ use Rattle.edit_steps.specs.declared.upgrade_read.sources.Sources.{Sources}
 use Rattle.edit_program.specs.Planned.{IsPlanCause, to_request, to_lookup_request, upgrade_index}
 use Rattle.edit_program.specs.Run.{Run}
 use Rattle.edit_program.specs.Upgrading.{IsPlannedTo}
+use Rattle.edit_program.specs.declared.upgrade_run.following.Readings.{Readings}
 use Rattle.edit_program.specs.declared.upgrade_run.upgrade_args.UpgradeArgs.{UpgradeArgs}
 use Rattle.edit_program.specs.DeliveryCauses.{IsStopped}
 
@@ -30,21 +31,21 @@ pub record HasNoPlan (options : Options) (view : Sources → IndexView) (request
   pub read : AreRead files current home request sources
   pub cause : IsPlanCause options sources.target.inputs.items (lists_for sources.configs) (view sources) e
 
--- the lock file and the other given files were read, and planning over their index fails
+-- the given files were read, and planning by the policy over their index fails
 pub record HasNoUpgradePlan (args : UpgradeArgs) (current : List ℕ) (home : Option (List ℕ))
     (local : StoreView) (files : Files) (e : Error) : Type 0 where
-  pub lock : Option (List Package)
-  pub locked : IsLockRead args.to_lockfile files current (given args.lock_file) lock
-  pub unplanned : HasNoPlan args.options (λ s. upgrade_index args lock s.index local) (to_request args)
-      current home files e
+  pub readings : Readings
+  pub ready : IsReady args current home files readings
+  pub cause : IsPlanCause readings.args.options readings.sources.target.inputs.items
+      (lists_for readings.sources.configs) (upgrade_index readings local) e
 
--- the cause of an error before there is a plan: reading the lock file or another file fails, or planning
--- does
+-- the cause of an error before there is a plan: reading the lock file or another file fails, the policy is
+-- invalid, or planning fails
 abbrev pub IsUnplanned : UpgradeArgs → List ℕ → Option (List ℕ) → StoreView → Files → Error → Type 0
 IsUnplanned args current home local files e =
     HasNoLock args.to_lockfile files current (given args.lock_file) e
     ⊎ (HasBadSources files current home (to_request args) e
-    ⊎ HasNoUpgradePlan args current home local files e)
+    ⊎ (HasBadPolicy args current home files e ⊎ HasNoUpgradePlan args current home local files e))
 
 -- the cause in the given files: there is no plan, and each file is unchanged; or the plan is not carried
 -- out

@@ -1,7 +1,9 @@
 //! The command `upgrade`, over any files, any index and any writers.
 
 mod delivering;
+mod following;
 mod lookup_printing;
+mod merging;
 mod plan;
 mod reading;
 pub mod upgrade_args;

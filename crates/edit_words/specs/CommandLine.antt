@@ -41,6 +41,7 @@ switches =
     ∷ count_rule (codes "quiet") 113
     ∷ flag_rule (codes "never-lower")
     ∷ flag_rule (codes "to-lockfile")
+    ∷ flag_rule (codes "no-policy")
     ∷ []
 
 -- the options that say by when versions have to be published

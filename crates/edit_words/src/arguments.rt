@@ -67,7 +67,7 @@ fn configurations<'a>() -> [ArgSpec<'a>; 2]
 }
 
 /// What says which versions of Rust count, and the flags.
-fn switches<'a>() -> [ArgSpec<'a>; 9]
+fn switches<'a>() -> [ArgSpec<'a>; 10]
     ensures { map arg_rule result ≡ rust_choices ++ switches }
 {
     [
@@ -100,6 +100,11 @@ fn switches<'a>() -> [ArgSpec<'a>; 9]
             "to-lockfile",
             Form::Flag,
             "Raise only to the versions in Cargo.lock",
+        ),
+        plain(
+            "no-policy",
+            Form::Flag,
+            "Ignores the policy of the root manifest",
         ),
     ]
 }

@@ -10,7 +10,7 @@ ghost use Rattle.edit_steps.specs.Sources.{MayBePlanned};
 ghost use Rattle.edit_store.specs.Store.{OnlyReads, IsCallError};
 ghost use Rattle.edit_program.specs.LockRead.{HasNoLock, IsLockAt, IsLockRead};
 ghost use Rattle.edit_program.specs.Planned.{to_request};
-ghost use Rattle.edit_program.specs.Upgrading.{IsRead};
+ghost use Rattle.edit_program.specs.Reading.{IsRead};
 
 use crate::upgrade_run::upgrade_args::UpgradeArgs;
 use edit_base::Error;
@@ -21,7 +21,7 @@ use edit_store::Store;
 use std::alloc::Global;
 
 /// The files that an upgrade depends on, and the lock file that its calls must be valid for.
-pub(crate) struct Readings {
+pub(crate) struct ReadFiles {
     pub(crate) sources: Sources,
     pub(crate) lock: Option<Lock>,
 }
@@ -93,13 +93,13 @@ fn read_lock<S: Store>(
 }
 
 /// Reads the given lock file, and then the files that the upgrade depends on. No file changes.
-pub(crate) fn read<S: Store>(
+pub(crate) fn read_files<S: Store>(
     alloc: Global,
     args: &UpgradeArgs<'_>,
     current: &str,
     cargo_home: Option<&str>,
     files: &mut S,
-) -> RunResult<Readings>
+) -> RunResult<ReadFiles>
     ensures store { OnlyReads (S.view files.old) (S.view files.new) }
     ensures read { IfOk result (λ r. (S.view files.old).tells ≡ true
         → IsRead args.now current.now (given cargo_home.entry) (S.view files.old).file_at r.sources) }
@@ -116,5 +116,5 @@ pub(crate) fn read<S: Store>(
 {
     let lock = read_lock(alloc, args.lock_file, args.to_lockfile, current, files)?;
     let sources = read_sources(alloc, &args.to_request(), current, cargo_home, files)?;
-    Ok(Readings { sources, lock })
+    Ok(ReadFiles { sources, lock })
 }

@@ -3,6 +3,7 @@ ghost use Rattle.std.specs.Prelude.{◌≡◌};
 ghost use Rattle.edit_steps.specs.RequestView.{request_view};
 ghost use Rattle.edit_program.specs.Planned.{to_request, to_lookup_request};
 
+use edit_policy::GivenChoices;
 use edit_shown::Presentation;
 use edit_sources::PublishedBefore;
 use edit_steps::upgrade_read::{RustChoice, SourceRequest};
@@ -25,6 +26,10 @@ pub struct UpgradeArgs<'a> {
     pub default_config: Option<&'a str>,
     pub rust: RustChoice,
     pub options: Options,
+    /// Which of the choices in `options` arguments give; the others are defaults.
+    pub given: GivenChoices,
+    /// Whether the policy of the root manifest is ignored.
+    pub no_policy: bool,
     pub presentation: Presentation,
     /// The file to which the calls of `cargo update` are written.
     pub update_calls: Option<&'a str>,
