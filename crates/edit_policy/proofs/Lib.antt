@@ -1,3 +1,4 @@
+mod DayLemmas
 mod FaultLemmas
 mod FormLemmas
 mod ItemLemmas

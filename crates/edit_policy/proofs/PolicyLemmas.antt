@@ -12,7 +12,7 @@ use Rattle.edit_version.specs.RustVersions.{numbers_of, rust_of}
 use Rattle.edit_policy.specs.Faults.{InPolicy, IsFault}
 use Rattle.edit_policy.specs.Policies.{AreCratePolicies, HasOnlyKeys, IsCratePolicy, IsEmpty, IsPolicy, is_stray, item_under, member}
 use Rattle.edit_policy.specs.PolicyTables.{IsTableAt, place_in, tree_in}
-use Rattle.edit_policy.specs.Values.{Tree, by_text, is_fit, status_of, texts_in, value_in}
+use Rattle.edit_policy.specs.Values.{Tree, by_text, days_in, is_fit, level_of, status_of, texts_in, value_in}
 use Rattle.edit_policy.specs.declared.error.PolicyError.{PolicyError}
 use Rattle.edit_policy.specs.declared.keys.Expected.TheVariants.{Table}
 use Rattle.edit_policy.specs.declared.keys.KeySet.{KeySet}
@@ -77,6 +77,8 @@ absent_policy t table p none empty =
           ∙ ap Some (sym empty.incompatible);
       pinned = ap (value_in (by_text status_of)) (under (codes "pinned")) ∙ ap Some (sym empty.pinned);
       never_lower = ap (value_in truth_in) (under (codes "never-lower")) ∙ ap Some (sym empty.never_lower);
+      level = ap (value_in (by_text level_of)) (under (codes "level")) ∙ ap Some (sym empty.level);
+      min_age = ap (value_in days_in) (under (codes "min-age")) ∙ ap Some (sym empty.min_age);
       rust_version = ap (value_in (by_text rust_of)) (under (codes "rust-version"))
           ∙ ap (λ o. Some (option_map numbers_of o)) (sym empty.rust_version);
       crates = no_crates t (member table (codes "crates")) (item_under t table (codes "crates"))

@@ -2,7 +2,7 @@
 use Rattle.std.specs.Prelude.{ℕ, List, Bool, true, false, ◌||◌, codes, if◌then◌else◌}
 use Rattle.std.specs.Str.{bytes_eq}
 use Rattle.edit_policy.specs.declared.keys.Expected.{Expected}
-use Rattle.edit_policy.specs.declared.keys.Expected.TheVariants.{Absent, Table, Texts, Text, Truth, Status, RustVersion, Requirement}
+use Rattle.edit_policy.specs.declared.keys.Expected.TheVariants.{Absent, Table, Texts, Text, Truth, Status, Level, Days, RustVersion, Requirement}
 use Rattle.edit_policy.specs.declared.keys.KeySet.{KeySet}
 use Rattle.edit_policy.specs.declared.keys.KeySet.TheVariants.{OfPolicy, OfCrate}
 
@@ -14,8 +14,10 @@ policy_key name =
     else (if bytes_eq name (codes "incompatible") then Status
     else (if bytes_eq name (codes "pinned") then Status
     else (if bytes_eq name (codes "never-lower") then Truth
+    else (if bytes_eq name (codes "level") then Level
+    else (if bytes_eq name (codes "min-age") then Days
     else (if bytes_eq name (codes "rust-version") then RustVersion
-    else (if bytes_eq name (codes "crates") then Table else Absent))))))
+    else (if bytes_eq name (codes "crates") then Table else Absent))))))))
 
 -- what the value of a key in the table of a crate has to be (own)
 abbrev pub crate_key : List ℕ → Expected

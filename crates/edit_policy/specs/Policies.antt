@@ -8,7 +8,7 @@ use Rattle.edit_tree.specs.Tree.{View}
 use Rattle.edit_version.specs.Requirement.{comparators_of, requirement_read}
 use Rattle.edit_version.specs.RustVersions.{numbers_of, rust_of}
 use Rattle.edit_policy.specs.Keys.{expected_at, is_absent}
-use Rattle.edit_policy.specs.Values.{Tree, by_text, is_fit, status_of, texts_in, value_in}
+use Rattle.edit_policy.specs.Values.{Tree, by_text, days_in, is_fit, level_of, status_of, texts_in, value_in}
 use Rattle.edit_policy.specs.declared.keys.Expected.TheVariants.{Table}
 use Rattle.edit_policy.specs.declared.keys.KeySet.{KeySet}
 use Rattle.edit_policy.specs.declared.keys.KeySet.TheVariants.{OfCrate, OfPolicy}
@@ -66,6 +66,8 @@ pub record IsPolicy (t : Tree) (table : Place) (p : Policy) : Type 0 where
       ≡ Some p.incompatible
   pub pinned : value_in (by_text status_of) (item_under t table (codes "pinned")) ≡ Some p.pinned
   pub never_lower : value_in truth_in (item_under t table (codes "never-lower")) ≡ Some p.never_lower
+  pub level : value_in (by_text level_of) (item_under t table (codes "level")) ≡ Some p.level
+  pub min_age : value_in days_in (item_under t table (codes "min-age")) ≡ Some p.min_age
   pub rust_version : value_in (by_text rust_of) (item_under t table (codes "rust-version"))
       ≡ Some (option_map numbers_of p.rust_version)
   pub crates : AreCratePolicies t (member table (codes "crates")) (item_under t table (codes "crates"))
@@ -78,6 +80,8 @@ pub record IsEmpty (p : Policy) : Type 0 where
   pub incompatible : p.incompatible ≡ None
   pub pinned : p.pinned ≡ None
   pub never_lower : p.never_lower ≡ None
+  pub level : p.level ≡ None
+  pub min_age : p.min_age ≡ None
   pub rust_version : p.rust_version ≡ None
   pub crates : p.crates.items ≡ []
 

@@ -1,14 +1,18 @@
 -- How the value at a place of a policy is read (own).
-use Rattle.std.specs.Prelude.{ℕ, zero, suc, List, [], ◌∷◌, ◌++◌, Bool, true, false, not, Option, Some, None, codes, if◌then◌else◌, is_some, option_and_then, option_map}
+use Rattle.std.specs.Prelude.{ℕ, zero, suc, ◌^◌, List, [], ◌∷◌, ◌++◌, Bool, true, false, not, ◌&&◌, nat_lt, Option, Some, None, codes, if◌then◌else◌, is_some, length, option_and_then, option_map}
 use Rattle.std.specs.Option.{option_map_or, option_to_list}
 use Rattle.std.specs.Str.{bytes_eq}
-use Rattle.edit_document.specs.Items.{is_static_array, is_tabular, string_in, truth_in}
+use Rattle.std.specs.Str.Parse.{digits_value}
+use Rattle.semver.specs.Order.{is_numeric}
+use Rattle.edit_document.specs.Items.{digits_in, is_static_array, is_tabular, string_in, truth_in}
 use Rattle.edit_tree.specs.Assertions.{Place, at, index}
 use Rattle.edit_tree.specs.Tree.{View, static_array}
 use Rattle.edit_version.specs.Requirement.{requirement_read}
 use Rattle.edit_version.specs.RustVersions.{rust_of}
+use Rattle.edit_version.specs.declared.levels.Level.{Level as LevelName}
+use Rattle.edit_version.specs.declared.levels.Level.TheVariants.{Major, Minor, Patch}
 use Rattle.edit_policy.specs.declared.keys.Expected.{Expected}
-use Rattle.edit_policy.specs.declared.keys.Expected.TheVariants.{Absent, Table, Texts, Text, Truth, Status, RustVersion, Requirement}
+use Rattle.edit_policy.specs.declared.keys.Expected.TheVariants.{Absent, Table, Texts, Text, Truth, Status, Level, Days, RustVersion, Requirement}
 
 -- the item at each place of a document (own)
 abbrev pub Tree : Type 0
@@ -20,9 +24,26 @@ status_of text =
     if bytes_eq text (codes "allow") then Some true
     else (if bytes_eq text (codes "ignore") then Some false else None)
 
+-- the level that a text names; none for other texts (own)
+abbrev pub level_of : List ℕ → Option LevelName
+level_of text =
+    if bytes_eq text (codes "patch") then Some Patch
+    else (if bytes_eq text (codes "minor") then Some Minor
+    else (if bytes_eq text (codes "major") then Some Major else None))
+
+-- the number of days of at most 32 bits that decimal digits are; none for other texts (own)
+abbrev pub days_of : List ℕ → Option ℕ
+days_of text =
+    if is_numeric text && nat_lt 0 (length text) && nat_lt (digits_value 10 text) (2 ^ 32)
+    then Some (digits_value 10 text) else None
+
 -- what a string says, by how its text is read; none for other views (own)
 abbrev pub by_text : {A : Type 0} → (List ℕ → Option A) → View → Option A
 by_text read v = option_and_then read (string_in v)
+
+-- the number of days that an integer is; none for other views (own)
+abbrev pub days_in : View → Option ℕ
+days_in v = option_and_then days_of (digits_in v)
 
 -- what an item says, by how its view is read: `Some None` where there is no item, and none where it cannot be
 -- read so (own)
@@ -57,5 +78,7 @@ is_fit Texts v = option_map_or is_static_array v true
 is_fit Text v = is_some (value_in string_in v)
 is_fit Truth v = is_some (value_in truth_in v)
 is_fit Status v = is_some (value_in (by_text status_of) v)
+is_fit Level v = is_some (value_in (by_text level_of) v)
+is_fit Days v = is_some (value_in days_in v)
 is_fit RustVersion v = is_some (value_in (by_text rust_of) v)
 is_fit Requirement v = is_some (value_in (by_text requirement_read) v)

@@ -16,6 +16,10 @@ pub enum Expected {
     Truth,
     /// Whether a kind of upgrade is allowed.
     Status,
+    /// How far an upgrade may go.
+    Level,
+    /// A whole number of days.
+    Days,
     RustVersion,
     Requirement,
 }
@@ -29,6 +33,8 @@ impl fmt::Display for Expected {
             Expected::Text => "has to be a string",
             Expected::Truth => "has to be `true` or `false`",
             Expected::Status => "has to be \"allow\" or \"ignore\"",
+            Expected::Level => "has to be \"patch\", \"minor\" or \"major\"",
+            Expected::Days => "has to be a whole number of days, such as 14",
             Expected::RustVersion => "has to be a version of Rust, such as \"1.70\"",
             Expected::Requirement => "has to be a version requirement, such as \"^1\"",
         })
@@ -50,6 +56,8 @@ fn policy_key(name: &str) -> Expected
         "exclude" => Expected::Texts,
         "compatible" | "incompatible" | "pinned" => Expected::Status,
         "never-lower" => Expected::Truth,
+        "level" => Expected::Level,
+        "min-age" => Expected::Days,
         "rust-version" => Expected::RustVersion,
         "crates" => Expected::Table,
         _ => Expected::Absent,

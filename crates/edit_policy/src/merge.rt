@@ -1,20 +1,23 @@
 //! The choices of a run, by the command line and by the policy.
 ghost use Rattle.std.specs.Prelude.{◌≡◌, ◌++◌, IfOk, OnOk, map, string_bytes};
+ghost use Rattle.std.specs.Option.{option_or};
 ghost use Rattle.edit_policy.specs.Merged.{choice};
 
 use crate::policy::Policy;
+use edit_version::Level;
 use std::alloc::{AllocError, Global};
 
-/// Which upgrades are made.
+/// Which upgrades are made, and how far they may go.
 #[derive(Clone, Copy, Debug, PartialEq, Eq)]
 pub struct Choices {
     pub compatible: bool,
     pub incompatible: bool,
     pub pinned: bool,
     pub never_lower: bool,
+    pub level: Option<Level>,
 }
 
-/// Which of the choices arguments of the command line give; the others have their default values.
+/// Which of the choices with a default are given on the command line; the others have their default values.
 #[derive(Clone, Copy, Debug, PartialEq, Eq)]
 pub struct GivenChoices {
     pub compatible: bool,
@@ -34,7 +37,8 @@ fn choice(given: bool, value: bool, policy: Option<bool>) -> bool
 }
 
 /// The choices of a run: those of arguments, where they are given, else the policy's, else the defaults.
-/// `never_lower` is true where an argument or the policy says so.
+/// `never_lower` is true where an argument or the policy says so, and `level` is that of the arguments, where
+/// they give one.
 pub fn merge_choices(choices: Choices, given: GivenChoices, policy: &Policy) -> Choices
     ensures compatible { result.compatible
         ≡ choice given.compatible choices.compatible policy.now.compatible }
@@ -43,6 +47,7 @@ pub fn merge_choices(choices: Choices, given: GivenChoices, policy: &Policy) -> 
     ensures pinned { result.pinned ≡ choice given.pinned choices.pinned policy.now.pinned }
     ensures never_lower { result.never_lower
         ≡ choice choices.never_lower choices.never_lower policy.now.never_lower }
+    ensures level { result.level ≡ option_or choices.level policy.now.level }
 {
     let lower = choices.never_lower;
     Choices {
@@ -54,6 +59,7 @@ pub fn merge_choices(choices: Choices, given: GivenChoices, policy: &Policy) -> 
         ),
         pinned: choice(given.pinned, choices.pinned, policy.pinned),
         never_lower: choice(lower, lower, policy.never_lower),
+        level: choices.level.or(policy.level),
     }
 }
 

@@ -11,7 +11,7 @@ use crate::keys::KeySet;
 use crate::place::policy_place;
 use crate::table::PolicyTable;
 use edit_document::{Document, Step};
-use edit_version::RustVersion;
+use edit_version::{Level, RustVersion};
 use semver::VersionReq;
 use std::alloc::{AllocError, Global};
 
@@ -41,6 +41,10 @@ pub struct Policy {
     pub incompatible: Option<bool>,
     pub pinned: Option<bool>,
     pub never_lower: Option<bool>,
+    /// How far an upgrade may go from what the old requirement names.
+    pub level: Option<Level>,
+    /// The days that a version has to be old.
+    pub min_age: Option<u32>,
     pub rust_version: Option<RustVersion>,
     /// The crates of which the policy says something, each once.
     pub crates: Vec<CratePolicy>,
@@ -104,6 +108,8 @@ fn read_table(alloc: Global, table: &PolicyTable<'_>) -> Result<Policy, PolicyEr
     let incompatible = table.status_at(alloc, "incompatible")?;
     let pinned = table.status_at(alloc, "pinned")?;
     let never_lower = table.truth_at(alloc, "never-lower")?;
+    let level = table.level_at(alloc, "level")?;
+    let min_age = table.days_at(alloc, "min-age")?;
     let rust_version = table.rust_version_at(alloc, "rust-version")?;
     let exclude = table.texts_at(alloc, "exclude")?;
     let crates = read_crates(alloc, table)?;
@@ -113,6 +119,8 @@ fn read_table(alloc: Global, table: &PolicyTable<'_>) -> Result<Policy, PolicyEr
         incompatible,
         pinned,
         never_lower,
+        level,
+        min_age,
         rust_version,
         crates,
     })
@@ -129,6 +137,8 @@ impl Policy {
             incompatible: None,
             pinned: None,
             never_lower: None,
+            level: None,
+            min_age: None,
             rust_version: None,
             crates: Vec::new(alloc),
         }

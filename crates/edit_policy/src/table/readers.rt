@@ -5,9 +5,9 @@ use crate::keys::Expected;
 use crate::policy::Hold;
 use crate::table::PolicyTable;
 use crate::texts::element_texts;
-use crate::values::{hold_in, rust_version_in, status_in};
+use crate::values::{days_in, hold_in, level_in, rust_version_in, status_in};
 use edit_document::member_place;
-use edit_version::RustVersion;
+use edit_version::{Level, RustVersion};
 use std::alloc::Global;
 
 impl<'a> PolicyTable<'a> {
@@ -18,7 +18,7 @@ impl<'a> PolicyTable<'a> {
     ghost use Rattle.edit_policy.specs.Faults.{InTexts, IsFault, Only};
     ghost use Rattle.edit_policy.specs.Policies.{member};
     ghost use Rattle.edit_policy.specs.PolicyTables.{item_at, place_in, tree_in};
-    ghost use Rattle.edit_policy.specs.Values.{by_text, status_of, texts_in, value_in};
+    ghost use Rattle.edit_policy.specs.Values.{by_text, days_in, level_of, status_of, texts_in, value_in};
     ghost use Rattle.edit_policy.specs.declared.keys.Expected.TheVariants as expected;
 
     /// The string under a key; none where there is no item, and an error where it is no string.
@@ -85,6 +85,37 @@ impl<'a> PolicyTable<'a> {
         match status_in(item) {
             Some(status) => Ok(Some(status)),
             None => Err(self.unexpected(alloc, name, Expected::Status)),
+        }
+    }
+
+    /// The level under a key; none where there is no item, and an error where it names no level.
+    pub(crate) fn level_at(&self, alloc: Global, name: &str) -> Result<Option<Level>, PolicyError>
+        ensures ok { IfOk result
+            (λ o. value_in (by_text level_of) (item_at self.now name.now) ≡ Some o) }
+        ensures error { IfErr result
+            (IsFault (Only (member (place_in self.now) name.now) expected.Level) (tree_in self.now)) }
+    {
+        let Some(item) = self.item.get(name) else {
+            return Ok(None);
+        };
+        match level_in(item) {
+            Some(level) => Ok(Some(level)),
+            None => Err(self.unexpected(alloc, name, Expected::Level)),
+        }
+    }
+
+    /// The number of days under a key; none where there is no item, and an error where it is no such integer.
+    pub(crate) fn days_at(&self, alloc: Global, name: &str) -> Result<Option<u32>, PolicyError>
+        ensures ok { IfOk result (λ o. value_in days_in (item_at self.now name.now) ≡ Some o) }
+        ensures error { IfErr result
+            (IsFault (Only (member (place_in self.now) name.now) expected.Days) (tree_in self.now)) }
+    {
+        let Some(item) = self.item.get(name) else {
+            return Ok(None);
+        };
+        match days_in(item) {
+            Some(days) => Ok(Some(days)),
+            None => Err(self.unexpected(alloc, name, Expected::Days)),
         }
     }
 

@@ -52,6 +52,24 @@ returns-in_err-never_lower-clause-error c =
     (own_fault (tree_in table) (place_in table) (codes "never-lower") expected.Truth _ refl
     c.in_err-never_lower.ensures.error)
 
+pub returns-in_err-level-clause-error : goal.returns-in_err-level-clause-error
+returns-in_err-level-clause-error c =
+    let stop = c.from_residual-in_err-level in
+    let p = err_from_is_err_and stop.result stop.ensures.1 in
+    let table = c.args.table.now in
+    rw (p.1, p.2)
+    (own_fault (tree_in table) (place_in table) (codes "level") expected.Level _ refl
+    c.in_err-level.ensures.error)
+
+pub returns-in_err-min_age-clause-error : goal.returns-in_err-min_age-clause-error
+returns-in_err-min_age-clause-error c =
+    let stop = c.from_residual-in_err-min_age in
+    let p = err_from_is_err_and stop.result stop.ensures.1 in
+    let table = c.args.table.now in
+    rw (p.1, p.2)
+    (own_fault (tree_in table) (place_in table) (codes "min-age") expected.Days _ refl
+    c.in_err-min_age.ensures.error)
+
 pub returns-in_err-rust_version-clause-error : goal.returns-in_err-rust_version-clause-error
 returns-in_err-rust_version-clause-error c =
     let stop = c.from_residual-in_err-rust_version in
