@@ -1,19 +1,24 @@
 //! Explains errors of the policy of a root manifest.
 ghost use Rattle.std.specs.Prelude.{◌≡◌};
+ghost use Rattle.edit_base.specs.declared.errors.Error.TheVariants.{Policy};
 ghost use Rattle.edit_policy.specs.Errors.{error_of};
 
 use crate::entries::entry_position;
 use crate::members::Explanation;
-use edit_document::{Place, Step};
+use edit_base::Error;
+use edit_document::{Place, Step, member_place};
 use edit_manifest::Manifest;
 use edit_metadata::Input;
-use edit_policy::{Expected, PolicyError};
+use edit_policy::{Expected, PolicyError, policy_place};
 use edit_steps::RunError;
 use std::alloc::{AllocError, Global};
 
 /// The help for a key that no policy has.
 const KEYS: &str =
-    "a policy has the keys `compatible`, `crates`, `exclude`, `incompatible`, `never-lower`, `pinned` and `rust-version`, and each crate in `crates` the keys `hold` and `reason`";
+    "a policy has the keys `compatible`, `crates`, `exclude`, `incompatible`, `level`, `min-age`, `never-lower`, `pinned` and `rust-version`, and each crate in `crates` the keys `hold` and `reason`";
+
+/// The help for other values.
+const IGNORE: &str = "`--no-policy` ignores the policy";
 
 /// The keys of a place, joined by dots, and the indices of elements in brackets.
 fn place_text(alloc: Global, place: &[Step]) -> Result<String, AllocError> {
@@ -52,7 +57,7 @@ fn help_for(alloc: Global, expected: Expected) -> Option<String> {
     if expected == Expected::Absent {
         return String::from_str(alloc, KEYS).ok();
     }
-    String::from_str(alloc, "`--no-policy` ignores the policy").ok()
+    String::from_str(alloc, IGNORE).ok()
 }
 
 /// Explains an item of a policy that is not what is expected at its place.
@@ -81,6 +86,46 @@ pub fn explain_policy(alloc: Global, input: &Input, error: PolicyError) -> RunEr
     let Explanation { place, cause, help } = explanation;
     RunError {
         error: error.into_error(),
+        place,
+        cause,
+        help,
+    }
+}
+
+/// The place of the age in the policy of a manifest.
+fn age_place(alloc: Global, manifest: &Manifest) -> Option<Place> {
+    let table = policy_place(alloc, &manifest.document).ok()?;
+    member_place(alloc, &table, "min-age").ok()
+}
+
+/// What the age in the policy of a manifest needs.
+fn age_cause(alloc: Global, place: &[Step]) -> Option<String> {
+    let text = place_text(alloc, place).ok()?;
+    format!(in alloc; "`{text}` needs `--now <TIME>`, a time of RFC 3339, as 2026-05-01T12:00:00Z").ok()
+}
+
+/// Explains where an age stands that has no time from which it counts back.
+fn untimed_age(alloc: Global, input: &Input) -> Option<Explanation> {
+    let manifest = Manifest::read_bytes(alloc, &input.bytes).ok()?;
+    let place = age_place(alloc, &manifest)?;
+    Some(Explanation {
+        place: entry_position(alloc, input, &manifest.document, &place),
+        cause: age_cause(alloc, &place),
+        help: String::from_str(alloc, IGNORE).ok(),
+    })
+}
+
+/// Explains that the policy in the manifest of an input sets an age, and that there is no time from which it
+/// counts back.
+pub fn explain_age(alloc: Global, input: &Input) -> RunError
+    ensures { result.error ≡ Policy }
+{
+    let Some(explanation) = untimed_age(alloc, input) else {
+        return RunError::from(Error::Policy);
+    };
+    let Explanation { place, cause, help } = explanation;
+    RunError {
+        error: Error::Policy,
         place,
         cause,
         help,

@@ -252,7 +252,7 @@ lock_cause HasFields args current home local old new e same (inl cause) =
 lock_cause HasFields args current home local old new e same (inr none) =
     inr (inr (inr (inr (λ t. inl (same, inl (none t))))))
 
--- nor is its policy valid
+-- nor can its policy be followed
 pub policy_cause : (HasFields : List ℕ → Type 0) (args : UpgradeArgs) (current : List ℕ)
     (home : Option (List ℕ)) (local old new : StoreView) (e : Error) → SameFiles old.file_at new.file_at
     → (IsReadCause current home (to_request args) old new e

@@ -84,6 +84,7 @@ pub record HasUpgradeArgs (rows : List Row) (w : UpgradeArgs) : Type 0 where
   pub to_lockfile : w.to_lockfile ≡ is_given (codes "to-lockfile") rows
   pub usable : has_lockfile_fault w.options.incompatible rows ≡ false
   pub bound : IsGivenBound rows w.published_before
+  pub time : given w.time ≡ first_of (codes "now") rows
 
 -- two indexes are given, an option has an invalid value, the options for Rust versions or for the output
 -- format are invalid, `--level` names no level, `--to-lockfile` cannot be used, or the options for the time

@@ -246,5 +246,6 @@ pub(crate) fn parse_upgrade_args<'a>(
         offline: is_given(matches, "offline"),
         to_lockfile,
         published_before,
+        time: matches.get_str("now"),
     })
 }

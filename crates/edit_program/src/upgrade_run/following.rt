@@ -1,24 +1,29 @@
 //! Follows the policy of the manifest in the root.
-ghost use Rattle.std.specs.Prelude.{◌≡◌, ◌≢◌, ◌⊎◌, IfErr, IfOk, option_copied, true};
+ghost use Rattle.std.specs.Prelude.{◌≡◌, ◌≢◌, ◌⊎◌, ◌&&◌, IfErr, IfOk, is_none, is_some, option_copied, true};
 ghost use Rattle.edit_base.specs.Errors.{IsMemory, number_of};
+ghost use Rattle.edit_base.specs.declared.errors.DeviceCall.TheVariants as call;
+ghost use Rattle.edit_base.specs.declared.errors.Error.TheVariants as error;
 ghost use Rattle.edit_sources.specs.Configured.{given};
-ghost use Rattle.edit_steps.specs.Causes.{IsReadCause};
+ghost use Rattle.edit_steps.specs.Causes.{HasNoIndex, IsReadCause};
 ghost use Rattle.edit_steps.specs.Faults.{CountsFault};
 ghost use Rattle.edit_steps.specs.Sources.{MayBePlanned};
-ghost use Rattle.edit_store.specs.Store.{OnlyReads};
-ghost use Rattle.edit_program.specs.Followed.{AreForPolicy, AreForRust, AreForVersion, HasBadPolicy, HasFaultIn, HasPolicyFault, HasRootFault, IsFollowed, IsFollowing, IsPolicyIn, IsReady, IsRootPolicy};
+ghost use Rattle.edit_store.specs.Store.{IsCallError, OnlyReads};
+ghost use Rattle.edit_program.specs.Followed.{AreBounded, AreForPolicy, AreForRust, AreForVersion, HasBadPolicy, HasFaultIn, HasPolicyFault, HasRootFault, IsFollowed, IsFollowing, IsIndexBy, IsPolicyIn, IsReady, IsRootPolicy, IsUnfollowed, with_index};
 ghost use Rattle.edit_program.specs.LockRead.{HasNoLock};
+ghost use Rattle.edit_program.specs.Merging.{IsBoundBy, LacksTime};
 ghost use Rattle.edit_program.specs.Planned.{to_request};
 
-use crate::upgrade_run::merging::merge_args;
+use crate::upgrade_run::merging::{merge_args, merge_bounds};
 use crate::upgrade_run::reading::{ReadFiles, read_files};
 use crate::upgrade_run::upgrade_args::UpgradeArgs;
-use edit_diagnostics::explain_policy;
+use edit_base::Error;
+use edit_diagnostics::{explain_age, explain_policy};
 use edit_lock::Lock;
 use edit_metadata::{Input, root_input, with_rust_version};
 use edit_policy::{Policy, manifest_policy};
-use edit_steps::RunResult;
-use edit_steps::upgrade_read::{RustChoice, Sources, Target};
+use edit_sources::PublishedBefore;
+use edit_steps::upgrade_read::{RustChoice, Sources, Target, read_index};
+use edit_steps::{RunError, RunResult};
 use edit_store::Store;
 use edit_version::RustVersion;
 use std::alloc::{AllocError, Global};
@@ -67,6 +72,36 @@ fn read_policy(alloc: Global, ignored: bool, target: &Target) -> RunResult<Polic
         Ok(Policy::empty(alloc))
     } else {
         root_policy(alloc, target)
+    }
+}
+
+/// The error where the policy sets an age, and there is no time from which it counts back.
+fn untimed_age(alloc: Global, target: &Target) -> RunError
+    ensures { result.error ≡ error.Policy }
+{
+    match root_input(alloc, target.workspace.as_ref(), target.inputs.as_slice()) {
+        Ok(Some(root)) => explain_age(alloc, root),
+        Ok(None) | Err(_) => RunError::from(Error::Policy),
+    }
+}
+
+/// The bound on the time of publication, from the arguments and from the age that the policy sets; an error
+/// where that age has no time from which it counts back.
+fn policy_bound(
+    alloc: Global,
+    args: &UpgradeArgs<'_>,
+    policy: &Policy,
+    target: &Target,
+) -> RunResult<Option<PublishedBefore>>
+    ensures bound { IfOk result
+        (IsBoundBy args.now.published_before (given args.now.time) policy.now.min_age) }
+    ensures error { IfErr result (λ r.
+        LacksTime args.now.published_before (given args.now.time) policy.now.min_age
+        × (r.error ≡ error.Policy)) }
+{
+    match merge_bounds(args.published_before, args.time, policy.min_age) {
+        Some(bound) => Ok(bound),
+        None => Err(untimed_age(alloc, target)),
     }
 }
 
@@ -139,13 +174,94 @@ fn follow_policy<'a>(
     ensures follows { IfOk result (IsFollowing args.now own) }
     ensures planned { MayBePlanned own.sources → IfOk result (λ r. MayBePlanned r.sources) }
     ensures error { IfErr result (λ r. IsMemory r.error
-        ⊎ HasPolicyFault args.now.no_policy own.sources.target r.error) }
+        ⊎ IsUnfollowed args.now own.sources.target r.error) }
     ensures counted { IfErr result (λ r. number_of r.error ≢ 3) }
 {
     let ReadFiles { sources, lock } = own;
     let policy = read_policy(alloc, args.no_policy, &sources.target)?;
-    let merged = merge_args(alloc, args, &policy)?;
+    let bound = policy_bound(alloc, args, &policy, &sources.target)?;
+    let merged = merge_args(alloc, args, &policy, bound)?;
     let sources = for_policy(alloc, args.rust, policy.rust_version, sources)?;
+    Ok(Readings {
+        sources,
+        lock,
+        policy,
+        args: merged,
+    })
+}
+
+/// Whether the policy sets the bound on the time of publication, which the index was read without.
+fn is_bound_by_policy(args: &UpgradeArgs<'_>, policy: &Policy) -> bool
+    ensures { result ≡ (is_none args.now.published_before && is_some policy.now.min_age) }
+{
+    args.published_before.is_none() && policy.min_age.is_some()
+}
+
+/// The files that were read, with the given index read again, by this bound.
+fn with_index<S: Store>(
+    alloc: Global,
+    args: &UpgradeArgs<'_>,
+    bound: Option<PublishedBefore>,
+    sources: Sources,
+    current: &str,
+    files: &mut S,
+) -> RunResult<Sources>
+    ensures store { OnlyReads (S.view files.old) (S.view files.new) }
+    ensures same { IfOk result (λ s. s ≡ with_index s.index sources) }
+    ensures index { IfOk result (λ s. (S.view files.old).tells ≡ true
+        → IsIndexBy bound args.now current.now (S.view files.old).file_at s.index) }
+    ensures error { IfErr result (λ r. IsCallError call.Read (S.view files.old) (S.view files.new) r.error
+        ⊎ ((S.view files.old).tells ≡ true
+        → HasNoIndex (S.view files.old).file_at current.now (given args.now.index_file) r.error)) }
+    ensures counted { IfErr result (λ r. CountsFault (S.view files.old) (S.view files.new) r.error) }
+{
+    let read = read_index(alloc, args.index_file, args.index_dir, bound, current, files)?;
+    let Sources {
+        target,
+        configs,
+        index,
+    } = sources;
+    drop(index);
+    Ok(Sources {
+        target,
+        configs,
+        index: read,
+    })
+}
+
+/// What was read, over an index that has the bound on the time of publication: where the policy sets that, a
+/// given index file is read again.
+fn with_bound<'a, S: Store>(
+    alloc: Global,
+    args: &UpgradeArgs<'_>,
+    readings: Readings<'a>,
+    current: &str,
+    files: &mut S,
+) -> RunResult<Readings<'a>>
+    ensures store { OnlyReads (S.view files.old) (S.view files.new) }
+    ensures bounded { IfOk result (λ r. (S.view files.old).tells ≡ true
+        → IsIndexBy args.now.published_before args.now current.now (S.view files.old).file_at
+        readings.sources.index
+        → IsBoundBy args.now.published_before (given args.now.time) readings.policy.min_age
+        readings.args.published_before
+        → AreBounded args.now current.now (S.view files.old).file_at readings r) }
+    ensures planned { MayBePlanned readings.sources → IfOk result (λ r. MayBePlanned r.sources) }
+    ensures error { IfErr result (λ r. IsCallError call.Read (S.view files.old) (S.view files.new) r.error
+        ⊎ ((S.view files.old).tells ≡ true
+        → HasNoIndex (S.view files.old).file_at current.now (given args.now.index_file) r.error)) }
+    ensures counted { IfErr result (λ r. CountsFault (S.view files.old) (S.view files.new) r.error) }
+{
+    if !is_bound_by_policy(args, &readings.policy) {
+        return Ok(readings);
+    }
+    let Readings {
+        sources,
+        lock,
+        policy,
+        args: merged,
+    } = readings;
+    let bound = merged.published_before;
+    let sources = with_index(alloc, args, bound, sources, current, files)?;
     Ok(Readings {
         sources,
         lock,
@@ -178,5 +294,6 @@ pub(crate) fn read<'a, S: Store>(
     ensures counted { IfErr result (λ r. CountsFault (S.view files.old) (S.view files.new) r.error) }
 {
     let own = read_files(alloc, args, current, cargo_home, files)?;
-    follow_policy(alloc, args, own)
+    let readings = follow_policy(alloc, args, own)?;
+    with_bound(alloc, args, readings, current, files)
 }

@@ -1,13 +1,46 @@
 //! The arguments of `upgrade` with what the policy of the project says.
-ghost use Rattle.std.specs.Prelude.{IfOk};
-ghost use Rattle.edit_program.specs.Merging.{AreMerged, IsMerged};
+ghost use Rattle.std.specs.Prelude.{◌≡◌, IfOk, MatchOption};
+ghost use Rattle.edit_sources.specs.Configured.{given};
+ghost use Rattle.edit_program.specs.Merging.{AreMerged, HasNoTime, IsAgeBound, IsBoundBy, IsMerged, LacksTime};
 
 use crate::upgrade_run::upgrade_args::UpgradeArgs;
 use edit_policy::{Choices, GivenChoices, Policy, copy_texts, merge_choices, merge_excluded};
+use edit_sources::PublishedBefore;
 use edit_upgrade::Options;
 use std::alloc::{AllocError, Global};
 
-/// Options with what a policy says, given which choices arguments give.
+/// The bound that an age in days gives, counted back from a time; `None` where there is an age and no such
+/// time.
+fn age_bound(time: Option<&str>, age: Option<u32>) -> Option<Option<PublishedBefore>>
+    ensures { MatchOption result (HasNoTime (given time.entry) age) (IsAgeBound (given time.entry) age) }
+{
+    match (age, time) {
+        (None, _) => Some(None),
+        (Some(_), None) => None,
+        (Some(days), Some(time)) => match PublishedBefore::days_before(time, days) {
+            Some(bound) => Some(Some(bound)),
+            None => None,
+        },
+    }
+}
+
+/// The bound on the time of publication: the given one, else the one of the age that the policy sets, where it
+/// sets one. `None` where that age has no time from which it counts back.
+pub(crate) fn merge_bounds(
+    bound: Option<PublishedBefore>,
+    time: Option<&str>,
+    age: Option<u32>,
+) -> Option<Option<PublishedBefore>>
+    ensures { MatchOption result (LacksTime bound (given time.entry) age)
+        (IsBoundBy bound (given time.entry) age) }
+{
+    match bound {
+        Some(bound) => Some(Some(bound)),
+        None => age_bound(time, age),
+    }
+}
+
+/// Options with what a policy says, where it is known which choices are given.
 fn merge_options(
     alloc: Global,
     options: &Options,
@@ -21,6 +54,7 @@ fn merge_options(
         incompatible: options.incompatible,
         pinned: options.pinned,
         never_lower: options.never_lower,
+        level: options.level,
     };
     let choices = merge_choices(choices, given, policy);
     Ok(Options {
@@ -34,17 +68,19 @@ fn merge_options(
         locked: options.locked,
         recursive: options.recursive,
         verbosity: options.verbosity,
-        level: options.level,
+        level: choices.level,
     })
 }
 
-/// Arguments with what a policy says.
+/// Arguments with what a policy says, and with this bound on the time of publication.
 pub(crate) fn merge_args<'a>(
     alloc: Global,
     args: &UpgradeArgs<'a>,
     policy: &Policy,
+    bound: Option<PublishedBefore>,
 ) -> Result<UpgradeArgs<'a>, AllocError>
-    ensures { IfOk result (IsMerged args.now policy.now) }
+    ensures merged { IfOk result (IsMerged args.now policy.now) }
+    ensures bound { IfOk result (λ m. m.published_before ≡ bound) }
 {
     let options = merge_options(alloc, &args.options, args.given, policy)?;
     Ok(UpgradeArgs {
@@ -63,6 +99,7 @@ pub(crate) fn merge_args<'a>(
         lock_file: args.lock_file,
         offline: args.offline,
         to_lockfile: args.to_lockfile,
-        published_before: args.published_before,
+        published_before: bound,
+        time: args.time,
     })
 }

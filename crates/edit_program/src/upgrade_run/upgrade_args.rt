@@ -26,7 +26,7 @@ pub struct UpgradeArgs<'a> {
     pub default_config: Option<&'a str>,
     pub rust: RustChoice,
     pub options: Options,
-    /// Which of the choices in `options` arguments give; the others are defaults.
+    /// Which of the choices in `options` are given; the others are defaults.
     pub given: GivenChoices,
     /// Whether the policy of the root manifest is ignored.
     pub no_policy: bool,
@@ -42,6 +42,8 @@ pub struct UpgradeArgs<'a> {
     pub to_lockfile: bool,
     /// The time by which versions have to be published, where there is one.
     pub published_before: Option<PublishedBefore>,
+    /// The time from which the age that the policy sets counts back.
+    pub time: Option<&'a str>,
 }
 
 impl<'a> UpgradeArgs<'a> {

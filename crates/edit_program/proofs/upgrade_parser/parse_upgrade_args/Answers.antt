@@ -72,4 +72,5 @@ returns-clause-asks c =
       to_lockfile = c.in_ok-to_lockfile.ensures.given;
       usable = c.in_ok-to_lockfile.ensures.usable;
       bound = c.in_ok-published_before.ensures.ok;
+      time = option_text_is c.args.matches.now (codes "now") c.get_str-10.result _ refl c.get_str-10.ensures;
     }

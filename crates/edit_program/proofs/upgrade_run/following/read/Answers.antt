@@ -9,7 +9,8 @@ use Rattle.edit_program.specs.Followed.{HasBadPolicy}
 use Rattle.edit_program.specs.LockRead.{HasNoLock}
 use Rattle.edit_program.specs.Planned.{to_request}
 use Rattle.edit_program.specs.Reading.{IsRead}
-use Rattle.edit_program.proofs.PolicyLemmas.{policy_refused}
+use Rattle.edit_program.proofs.CountLemmas.{fault_before}
+use Rattle.edit_program.proofs.PolicyLemmas.{bounded_before, index_refused, index_stays, policy_refused}
 use Rattle.edit_program.proofs.upgrade_run.following.read.Goals as goal
 
 pub returns-in_err-own-clause-error : goal.returns-in_err-own-clause-error
@@ -33,22 +34,8 @@ returns-in_err-own-clause-counted g c =
     failure_has c.from_residual.result c.in_err-own.field-0.0 (λ error. CountsFault old new error)
     c.from_residual.ensures.1 c.in_err-own.ensures.counted
 
-pub returns-clause-ready : goal.returns-clause-ready
-returns-clause-ready g c =
-    let own = c.in_ok-own.own in
-    IfOk-weaker c.follow_policy.result _ _
-    (λ r h t. record {
-      own = own;
-      read = c.in_ok-own.ensures.read t;
-      locked = c.in_ok-own.ensures.locked t;
-      follows = h;
-    }) c.follow_policy.ensures.follows
-
-pub returns-clause-planned : goal.returns-clause-planned
-returns-clause-planned g c = c.follow_policy.ensures.planned c.in_ok-own.ensures.planned
-
-pub returns-clause-error : goal.returns-clause-error
-returns-clause-error g c =
+pub returns-in_err-readings-clause-error : goal.returns-in_err-readings-clause-error
+returns-in_err-readings-clause-error g c =
     let args = c.args.args.now in
     let current = c.args.current.now in
     let home = given c.args.cargo_home in
@@ -56,9 +43,65 @@ returns-clause-error g c =
     let new = g.S.Store.view c.read_files.new.files in
     let s = c.in_ok-own.own.sources in
     let read : old.tells ≡ true → IsRead args current home old.file_at s = c.in_ok-own.ensures.read in
-    IfErr-weaker c.follow_policy.result _ _
-    (λ r h. policy_refused args current home old new s r.error read h) c.follow_policy.ensures.error
+    let e = c.in_err-readings.field-0.0 in
+    failure_has c.from_residual-in_err-readings.result e
+    (λ error. (IsReadCause current home (to_request args) old new error
+    ⊎ (old.tells ≡ true → HasNoLock args.to_lockfile old.file_at current (given args.lock_file) error))
+    ⊎ (old.tells ≡ true → HasBadPolicy args current home old.file_at error))
+    c.from_residual-in_err-readings.ensures.1
+    (policy_refused args current home old new s e.error read c.in_err-readings.ensures.error)
+
+pub returns-in_err-readings-clause-counted : goal.returns-in_err-readings-clause-counted
+returns-in_err-readings-clause-counted g c =
+    let old = g.S.Store.view c.args.files.now in
+    let new = g.S.Store.view c.read_files.new.files in
+    failure_has c.from_residual-in_err-readings.result c.in_err-readings.field-0.0
+    (λ error. CountsFault old new error) c.from_residual-in_err-readings.ensures.1
+    (λ device. absurd (c.in_err-readings.ensures.counted device))
+
+pub returns-clause-ready : goal.returns-clause-ready
+returns-clause-ready g c =
+    let args = c.args.args.now in
+    let current = c.args.current.now in
+    let old = g.S.Store.view c.args.files.now in
+    let mid = g.S.Store.view c.read_files.new.files in
+    let own = c.in_ok-own.own in
+    let followed = c.in_ok-readings.readings in
+    let follows = c.in_ok-readings.ensures.follows in
+    IfOk-weaker c.with_bound.result _ _
+    (λ r h t. record {
+      own = own;
+      read = c.in_ok-own.ensures.read t;
+      locked = c.in_ok-own.ensures.locked t;
+      followed = followed;
+      follows = follows;
+      bounded = bounded_before args current old mid followed r c.in_ok-own.ensures.store
+          (λ u. index_stays args current old.file_at own followed follows (c.in_ok-own.ensures.read u).indexed)
+          follows.bound h t;
+    }) c.with_bound.ensures.bounded
+
+pub returns-clause-planned : goal.returns-clause-planned
+returns-clause-planned g c =
+    c.with_bound.ensures.planned (c.in_ok-readings.ensures.planned c.in_ok-own.ensures.planned)
+
+pub returns-clause-error : goal.returns-clause-error
+returns-clause-error g c =
+    let args = c.args.args.now in
+    let current = c.args.current.now in
+    let home = given c.args.cargo_home in
+    let old = g.S.Store.view c.args.files.now in
+    let mid = g.S.Store.view c.read_files.new.files in
+    let new = g.S.Store.view c.with_bound.new.files in
+    let s = c.in_ok-own.own.sources in
+    let read : old.tells ≡ true → IsRead args current home old.file_at s = c.in_ok-own.ensures.read in
+    IfErr-weaker c.with_bound.result _ _
+    (λ r h. inl (inl (index_refused args current home old mid new s r.error c.in_ok-own.ensures.store read h)))
+    c.with_bound.ensures.error
 
 pub returns-clause-counted : goal.returns-clause-counted
 returns-clause-counted g c =
-    IfErr-weaker c.follow_policy.result _ _ (λ r h device. absurd (h device)) c.follow_policy.ensures.counted
+    let old = g.S.Store.view c.args.files.now in
+    let mid = g.S.Store.view c.read_files.new.files in
+    let new = g.S.Store.view c.with_bound.new.files in
+    IfErr-weaker c.with_bound.result _ _
+    (λ r h. fault_before old mid new r.error c.in_ok-own.ensures.store.later h) c.with_bound.ensures.counted
