@@ -258,15 +258,15 @@ fn with_bound<'a, S: Store>(
         sources,
         lock,
         policy,
-        args: merged,
+        args: chosen,
     } = readings;
-    let bound = merged.published_before;
+    let bound = chosen.published_before;
     let sources = with_index(alloc, args, bound, sources, current, files)?;
     Ok(Readings {
         sources,
         lock,
         policy,
-        args: merged,
+        args: chosen,
     })
 }
 
