@@ -101,7 +101,9 @@ fn age_place(alloc: Global, manifest: &Manifest) -> Option<Place> {
 /// What the age in the policy of a manifest needs.
 fn age_cause(alloc: Global, place: &[Step]) -> Option<String> {
     let text = place_text(alloc, place).ok()?;
-    format!(in alloc; "`{text}` needs `--now <TIME>`, a time of RFC 3339, as 2026-05-01T12:00:00Z").ok()
+    format!(in alloc;
+        "`{text}` needs `--now <TIME>`, a time of RFC 3339, as 2026-05-01T12:00:00Z"
+    ).ok()
 }
 
 /// Explains where an age stands that has no time from which it counts back.

@@ -215,7 +215,14 @@ fn with_index<S: Store>(
         → HasNoIndex (S.view files.old).file_at current.now (given args.now.index_file) r.error)) }
     ensures counted { IfErr result (λ r. CountsFault (S.view files.old) (S.view files.new) r.error) }
 {
-    let read = read_index(alloc, args.index_file, args.index_dir, bound, current, files)?;
+    let read = read_index(
+        alloc,
+        args.index_file,
+        args.index_dir,
+        bound,
+        current,
+        files,
+    )?;
     let Sources {
         target,
         configs,
