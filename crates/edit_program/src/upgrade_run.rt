@@ -5,6 +5,7 @@ mod following;
 mod lookup_printing;
 mod merging;
 mod plan;
+mod policy_age;
 mod reading;
 pub mod upgrade_args;
 mod upgrading;

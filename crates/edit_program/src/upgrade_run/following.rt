@@ -2,7 +2,6 @@
 ghost use Rattle.std.specs.Prelude.{◌≡◌, ◌≢◌, ◌⊎◌, ◌&&◌, IfErr, IfOk, is_none, is_some, option_copied, true};
 ghost use Rattle.edit_base.specs.Errors.{IsMemory, number_of};
 ghost use Rattle.edit_base.specs.declared.errors.DeviceCall.TheVariants as call;
-ghost use Rattle.edit_base.specs.declared.errors.Error.TheVariants as error;
 ghost use Rattle.edit_sources.specs.Configured.{given};
 ghost use Rattle.edit_steps.specs.Causes.{HasNoIndex, IsReadCause};
 ghost use Rattle.edit_steps.specs.Faults.{CountsFault};
@@ -10,20 +9,20 @@ ghost use Rattle.edit_steps.specs.Sources.{MayBePlanned};
 ghost use Rattle.edit_store.specs.Store.{IsCallError, OnlyReads};
 ghost use Rattle.edit_program.specs.Followed.{AreBounded, AreForPolicy, AreForRust, AreForVersion, HasBadPolicy, HasFaultIn, HasPolicyFault, HasRootFault, IsFollowed, IsFollowing, IsIndexBy, IsPolicyIn, IsReady, IsRootPolicy, IsUnfollowed, with_index};
 ghost use Rattle.edit_program.specs.LockRead.{HasNoLock};
-ghost use Rattle.edit_program.specs.Merging.{IsBoundBy, LacksTime};
+ghost use Rattle.edit_program.specs.Merging.{IsBoundBy};
 ghost use Rattle.edit_program.specs.Planned.{to_request};
 
-use crate::upgrade_run::merging::{merge_args, merge_bounds};
+use crate::upgrade_run::merging::merge_args;
+use crate::upgrade_run::policy_age::policy_bound;
 use crate::upgrade_run::reading::{ReadFiles, read_files};
 use crate::upgrade_run::upgrade_args::UpgradeArgs;
-use edit_base::Error;
-use edit_diagnostics::{explain_age, explain_policy};
+use edit_diagnostics::explain_policy;
 use edit_lock::Lock;
 use edit_metadata::{Input, root_input, with_rust_version};
 use edit_policy::{Policy, manifest_policy};
 use edit_sources::PublishedBefore;
+use edit_steps::RunResult;
 use edit_steps::upgrade_read::{RustChoice, Sources, Target, read_index};
-use edit_steps::{RunError, RunResult};
 use edit_store::Store;
 use edit_version::RustVersion;
 use std::alloc::{AllocError, Global};
@@ -72,36 +71,6 @@ fn read_policy(alloc: Global, ignored: bool, target: &Target) -> RunResult<Polic
         Ok(Policy::empty(alloc))
     } else {
         root_policy(alloc, target)
-    }
-}
-
-/// The error where the policy sets an age, and there is no time from which it counts back.
-fn untimed_age(alloc: Global, target: &Target) -> RunError
-    ensures { result.error ≡ error.Policy }
-{
-    match root_input(alloc, target.workspace.as_ref(), target.inputs.as_slice()) {
-        Ok(Some(root)) => explain_age(alloc, root),
-        Ok(None) | Err(_) => RunError::from(Error::Policy),
-    }
-}
-
-/// The bound on the time of publication, from the arguments and from the age that the policy sets; an error
-/// where that age has no time from which it counts back.
-fn policy_bound(
-    alloc: Global,
-    args: &UpgradeArgs<'_>,
-    policy: &Policy,
-    target: &Target,
-) -> RunResult<Option<PublishedBefore>>
-    ensures bound { IfOk result
-        (IsBoundBy args.now.published_before (given args.now.time) policy.now.min_age) }
-    ensures error { IfErr result (λ r.
-        LacksTime args.now.published_before (given args.now.time) policy.now.min_age
-        × (r.error ≡ error.Policy)) }
-{
-    match merge_bounds(args.published_before, args.time, policy.min_age) {
-        Some(bound) => Ok(bound),
-        None => Err(untimed_age(alloc, target)),
     }
 }
 

@@ -1,44 +1,12 @@
 //! The arguments of `upgrade` with what the policy of the project says.
-ghost use Rattle.std.specs.Prelude.{◌≡◌, IfOk, MatchOption};
-ghost use Rattle.edit_sources.specs.Configured.{given};
-ghost use Rattle.edit_program.specs.Merging.{AreMerged, HasNoTime, IsAgeBound, IsBoundBy, IsMerged, LacksTime};
+ghost use Rattle.std.specs.Prelude.{◌≡◌, IfOk};
+ghost use Rattle.edit_program.specs.Merging.{AreMerged, IsMerged};
 
 use crate::upgrade_run::upgrade_args::UpgradeArgs;
 use edit_policy::{Choices, GivenChoices, Policy, copy_texts, merge_choices, merge_excluded};
 use edit_sources::PublishedBefore;
 use edit_upgrade::Options;
 use std::alloc::{AllocError, Global};
-
-/// The bound that an age in days gives, counted back from a time; `None` where there is an age and no such
-/// time.
-fn age_bound(time: Option<&str>, age: Option<u32>) -> Option<Option<PublishedBefore>>
-    ensures { MatchOption result (HasNoTime (given time.entry) age) (IsAgeBound (given time.entry) age) }
-{
-    match (age, time) {
-        (None, _) => Some(None),
-        (Some(_), None) => None,
-        (Some(days), Some(time)) => match PublishedBefore::days_before(time, days) {
-            Some(bound) => Some(Some(bound)),
-            None => None,
-        },
-    }
-}
-
-/// The bound on the time of publication: the given one, else the one of the age that the policy sets, where it
-/// sets one. `None` where that age has no time from which it counts back.
-pub(crate) fn merge_bounds(
-    bound: Option<PublishedBefore>,
-    time: Option<&str>,
-    age: Option<u32>,
-) -> Option<Option<PublishedBefore>>
-    ensures { MatchOption result (LacksTime bound (given time.entry) age)
-        (IsBoundBy bound (given time.entry) age) }
-{
-    match bound {
-        Some(bound) => Some(Some(bound)),
-        None => age_bound(time, age),
-    }
-}
 
 /// Options with what a policy says, where it is known which choices are given.
 fn merge_options(
