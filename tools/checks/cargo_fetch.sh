@@ -78,6 +78,26 @@ row_min_age_of_a_word() {
   says "invalid value 'week' for '--min-age <DAYS>'"
   unwritten
 }
+# With --level patch requirements are raised only where the major and the minor number stay.
+row_level() {
+  run 0 upgrade --level patch
+  has Cargo.toml 'dep = "1.0"'
+  has Cargo.toml 'other = "0.2.5"'
+  run 0 upgrade --level minor
+  raised
+}
+# The reports for reviewers.
+row_markdown() {
+  run 0 upgrade -n --message-format markdown
+  grep -q -F '| dep | 1\.0 | 1\.2 | compatible |' "$room/out" || fail 'the table has no dep'
+  unwritten
+}
+row_github() {
+  run 0 upgrade -n --message-format github
+  grep -q -F '::notice file=Cargo.toml,line=7,title=cargo upgrade::dep: 1.0 -> 1.2 (compatible)' "$room/out" ||
+    fail 'no annotation of dep'
+  unwritten
+}
 # One crate that is not there does not hide the others.
 row_one_is_not_there() {
   fill

@@ -228,6 +228,26 @@ row_statuses() {
   run 2 set-version --wrong
   run 2 upgrade --pinned maybe
 }
+# With --to-lockfile requirements are raised to the versions of Cargo.lock, and no call changes it.
+row_to_lockfile() {
+  begins 'dep = "1.0"
+other = "0.2.0"' other@0.2.0
+  noted 0 upgrade --to-lockfile
+  has Cargo.toml 'dep = "1.2"'
+  has Cargo.toml 'other = "0.2.0"'
+  same "$room/begun.lock" Cargo.lock
+  run 0 upgrade --to-lockfile --check
+}
+# A missing Cargo.lock is an error of a dry run; else cargo makes it first.
+row_to_lockfile_without_one() {
+  rm Cargo.lock
+  run 1 upgrade -n --to-lockfile
+  says Cargo.lock
+  same "$room/first/Cargo.toml" Cargo.toml
+  [ ! -e Cargo.lock ] || fail 'Cargo.lock is made'
+  run 0 upgrade --to-lockfile
+  raised
+}
 # Calls have --offline only if the user gave it.
 row_printed_is_run() {
   noted 0 upgrade

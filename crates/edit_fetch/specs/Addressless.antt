@@ -1,12 +1,14 @@
 -- Sources of configuration files without a URL, and the lines that give each of them a placeholder URL.
-use Rattle.std.specs.Prelude.{ℕ, List, [], ◌∷◌, ◌++◌, ◌×◌, Option, Some, None, Bool, true, false, ◌&&◌, codes, is_none, map, not, string_bytes}
+use Rattle.std.specs.Prelude.{ℕ, List, [], ◌∷◌, ◌++◌, Option, Some, None, Bool, true, false, String, ◌&&◌, codes, is_none, map, not, string_bytes}
 use Rattle.std.specs.List.{filter, flat_map}
 use Rattle.std.specs.Str.{bytes_eq}
+use Rattle.std.specs.declared.alloc.Global.{Global}
 use Rattle.edit_fetch.specs.TomlText.{quoted, value_line}
 use Rattle.edit_sources.specs.Configured.{all_definitions}
 use Rattle.edit_sources.specs.SourceReplacement.{crates_io, crates_io_index, first}
 use Rattle.edit_sources.specs.Configuration.{Source}
 use Rattle.edit_sources.specs.declared.config.Config.{Config}
+use Rattle.edit_sources.specs.declared.config.ConfigSource.{ConfigSource}
 use Rattle.edit_fetch.specs.declared.addressless.AddresslessSource.{AddresslessSource}
 
 -- a source with neither `registry` nor `replace-with`
@@ -26,9 +28,13 @@ is_own_key key = not (bytes_eq key crates_io) && not (bytes_eq key crates_io_ind
 abbrev pub Place : Type 0
 Place = List ℕ × List ℕ
 
+-- a source that a file defines
+abbrev pub place_in : Config → String Global × ConfigSource → Place
+place_in config entry = (string_bytes entry.0, string_bytes config.path)
+
 -- the sources of a file, in its order
 abbrev pub sources_in : Config → List Place
-sources_in config = map (λ s. (string_bytes s.0, string_bytes config.path)) config.sources.items
+sources_in config = map (place_in config) config.sources.items
 
 -- whether a key is not one of the default registry, and its first definition in these files has no URL
 abbrev pub is_addressless : List Config → List ℕ → Bool

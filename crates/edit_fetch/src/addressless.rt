@@ -1,8 +1,8 @@
 //! Sources of configuration files without a URL, as those of vendored projects.
-ghost use Rattle.std.specs.Prelude.{◌≡◌, ◌++◌, IfOk, OnOk, find, map, option_map, string_bytes};
+ghost use Rattle.std.specs.Prelude.{◌≡◌, ◌++◌, ◌&&◌, IfOk, OnOk, find, map, not, option_map, string_bytes};
 ghost use Rattle.std.specs.List.{flat_map, list_any};
 ghost use Rattle.std.specs.Str.{bytes_eq};
-ghost use Rattle.edit_fetch.specs.Addressless.{addressless_sources, is_empty_definition, is_empty_source, is_own_key, place_of, placeholder_address, placeholder_line, source_line};
+ghost use Rattle.edit_fetch.specs.Addressless.{addressless_sources, is_addressless, is_empty_definition, is_empty_source, is_own_key, place_of, placeholder_address, placeholder_line, source_line};
 ghost use Rattle.edit_sources.specs.Configured.{all_definitions, configuration, source_view};
 ghost use Rattle.edit_sources.specs.SourceReplacement.{definitions_of, first};
 
@@ -88,6 +88,14 @@ fn is_listed(sources: &[AddresslessSource<'_>], key: &str) -> bool
     sources.iter().any(|source| source.key == key)
 }
 
+/// Whether the source of a key has no URL in these files and is not in a list of sources.
+fn is_unlisted(configs: &[Config], sources: &[AddresslessSource<'_>], key: &str) -> bool
+    ensures { result ≡ (is_addressless configs.now key.now
+        && not (list_any (λ s. bytes_eq s.key.now key.now) sources.now)) }
+{
+    is_own_key(key) && is_empty(configs, key) && !is_listed(sources, key)
+}
+
 /// The sources without a URL, each once and in the order of these files: the keys of `source`, other than
 /// the default registry's, whose first definition has neither a URL nor a replacement.
 pub fn addressless_sources<'a>(
@@ -100,7 +108,7 @@ pub fn addressless_sources<'a>(
     for config in configs {
         for (key, _) in &config.sources {
             let key = key.as_str();
-            if is_own_key(key) && is_empty(configs, key) && !is_listed(&found, key) {
+            if is_unlisted(configs, &found, key) {
                 let file = config.path.as_str();
                 found.push(AddresslessSource { key, file })?;
             }

@@ -1,10 +1,10 @@
 -- The line of a requirement, from the range of its value in a document.
-use Rattle.std.proofs.Common.{◌≡◌, ◌∙◌, ℕ, ◌+◌, ◌≤◌, ◌++◌, Bool, true, false, List, [], ◌∷◌, None, Option, Some, ap, ap₂, arith, drop, length, length-append, take, option_map, refl, subst, sym, inl, inr, ⊎_elim, ◌⊎◌}
+use Rattle.std.proofs.Common.{◌≡◌, ◌∙◌, ℕ, ◌+◌, ◌-◌, ◌≤◌, ◌++◌, Bool, true, false, List, [], ◌∷◌, None, Option, Some, ap, ap₂, arith, drop, length, length-append, min, take, option_map, refl, subst, sym, inl, inr, ⊎_elim, ◌⊎◌}
 use Rattle.std.specs.Prelude.{◌==◌, IsUtf8, count_by, filter, nat_le, not, ◌&&◌, ◌||◌, if◌then◌else◌, option_and_then}
 use Rattle.std.specs.List.{AllByRecursion, find, list_all}
 use Rattle.std.specs.Str.{is_utf8}
 use Rattle.std.proofs.lemmas.Bool.{and_parts, le-leb, leb-true}
-use Rattle.std.proofs.lemmas.List.{length-take, take-append-drop, take-take}
+use Rattle.std.proofs.lemmas.List.{drop_min, length-take, take-append-drop, take-take, take_min, take_rest}
 use Rattle.std.proofs.lemmas.List.Elements.{filter-append}
 use Rattle.std.proofs.lemmas.List.Sums.{count_by-le-length, length-filter}
 use Rattle.std.proofs.lemmas.Str.{IsUtf8-from_is_utf8, is_utf8-from_IsUtf8}
@@ -216,7 +216,7 @@ count_append p xs ys =
     ∙ ap₂ (λ m n. m + n) (length-filter p xs) (length-filter p ys)
 
 -- the line of a byte from that of one that is not behind it
-pub line_on : (bytes : List ℕ) (line from at : ℕ) → from ≤ at → line ≡ line_number bytes from
+line_on : (bytes : List ℕ) (line from at : ℕ) → from ≤ at → line ≡ line_number bytes from
     → line + count_by (λ b. b == 10) (drop from (take at bytes)) ≡ line_number bytes at
 line_on bytes line from at before is =
     let parts : take at bytes ≡ take from bytes ++ drop from (take at bytes) =
@@ -227,6 +227,20 @@ line_on bytes line from at before is =
     ap (count_by (λ b. b == 10)) parts
     ∙ count_append (λ b. b == 10) (take from bytes) (drop from (take at bytes)) in
     omega (arith, is, counts)
+
+-- the same, where the bytes between the two are a slice of those before the second
+pub line_after : (bytes front : List ℕ) (line from at start counted : ℕ) → from ≤ at
+    → line ≡ line_number bytes from → front ≡ take at bytes → start ≡ min from (length front)
+    → counted ≡ count_by (λ b. b == 10) (take (length front - start) (drop start front))
+    → line + counted ≡ line_number bytes at
+line_after bytes front line from at start counted before is whole begin count =
+    ap (λ n. line + n) (count ∙ ap (count_by (λ b. b == 10)) (take_rest front start
+    ∙ ap (λ n. drop n front) begin ∙ drop_min from front ∙ ap (drop from) whole))
+    ∙ line_on bytes line from at before is
+
+-- the front of a text up to a byte, which may be behind its end
+pub front_is : (bytes : List ℕ) (end at : ℕ) → end ≡ min at (length bytes) → take end bytes ≡ take at bytes
+front_is bytes end at is = ap (λ n. take n bytes) is ∙ take_min at bytes
 
 -- a line is not past the number of bytes by more than one
 pub line_fits : (bytes : List ℕ) (at : ℕ) → line_number bytes at ≤ length bytes + 1

@@ -1,1 +1,4 @@
+pub mod LineLemmas
+pub mod ReportLemmas
+pub mod RowLemmas
 pub mod ShowsLemmas

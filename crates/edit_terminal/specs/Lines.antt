@@ -1,5 +1,5 @@
 -- Lines of a report, by their form (own).
-use Rattle.std.specs.Prelude.{ℕ, List, [], ◌∷◌, ◌++◌, Bool, not, ◌&&◌, ◌||◌, ◌==◌, codes, drop, if◌then◌else◌, length, nat_eq, nat_le, position, take}
+use Rattle.std.specs.Prelude.{ℕ, List, [], Bool, not, ◌&&◌, ◌||◌, ◌==◌, codes, drop, if◌then◌else◌, length, nat_eq, nat_le, position, take}
 use Rattle.std.specs.Char.{is_ascii_alphabetic}
 use Rattle.std.specs.List.{list_all, starts_with}
 use Rattle.std.specs.Option.{option_map_or}
@@ -27,6 +27,10 @@ is_heading line =
 -- the line that underlines the titles
 abbrev pub is_underline : List ℕ → Bool
 is_underline line = starts_with nat_eq line (codes "=") && list_all (λ b. (b == 61) || (b == 32)) line
+
+-- the first line of a diff
+abbrev pub is_diff_start : List ℕ → Bool
+is_diff_start line = starts_with nat_eq line (codes "--- ")
 
 -- the line has the titles of a table, or underlines them
 abbrev pub is_title : List ℕ → Bool

@@ -1,12 +1,10 @@
 -- A report on a terminal: messages with styles, and tables whose columns are aligned as a terminal shows them
 -- (own).
-use Rattle.std.specs.Prelude.{ℕ, List, [], ◌∷◌, ◌++◌, Bool, not, ◌&&◌, ◌==◌, chars, codes, drop, fold, if◌then◌else◌, nat_eq, take}
-use Rattle.std.specs.List.{starts_with}
-use Rattle.edit_terminal.specs.Lines.{beginning, is_title, is_underline}
+use Rattle.std.specs.Prelude.{ℕ, List, [], ◌∷◌, ◌++◌, Bool, not, ◌&&◌, ◌==◌, chars, codes, drop, fold, if◌then◌else◌, take}
+use Rattle.edit_terminal.specs.Lines.{beginning, is_diff_start, is_title, is_underline}
 use Rattle.edit_terminal.specs.Rows.{column_starts, is_row, row_text}
 use Rattle.edit_terminal.specs.Shown.{terminal_chars}
 use Rattle.edit_terminal.specs.Styles.{style_if, styled}
-use Rattle.edit_terminal.specs.declared.styles.Style.{Style}
 use Rattle.edit_terminal.specs.declared.styles.Style.TheVariants.{Title}
 
 -- a message whose beginning has a style, where styles are wanted
@@ -20,13 +18,14 @@ message_text wanted line =
 abbrev pub line_text : Bool → List ℕ → List ℕ → List ℕ
 line_text wanted starts line =
     if is_title line then styled (style_if wanted Title) (chars line)
-    else (if is_row starts line then row_text wanted starts line else message_text wanted line)
+    else (if not (is_diff_start line) && is_row starts line then row_text wanted starts line
+    else message_text wanted line)
 
 -- where the columns begin after a line: a table ends where a diff begins
 abbrev pub starts_after : List ℕ → List ℕ → List ℕ
 starts_after starts line =
     if is_underline line then column_starts line
-    else (if starts_with nat_eq line (codes "--- ") then [] else starts)
+    else (if is_diff_start line then [] else starts)
 
 -- what a writer holds of a report: the bytes of a line that has not ended, and where the columns begin
 pub record Held : Type 0 where

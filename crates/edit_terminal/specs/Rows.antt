@@ -1,5 +1,5 @@
 -- Rows of a table, whose cells are padded by bytes, with cells as wide as a terminal shows them (own).
-use Rattle.std.specs.Prelude.{ℕ, ◌+◌, ◌-◌, List, [], ◌∷◌, ◌++◌, Bool, not, ◌&&◌, ◌||◌, ◌==◌, chars, drop, filter, if◌then◌else◌, length, min, nat_eq, replicate, slice_get, slice_index, take, unwrap_or}
+use Rattle.std.specs.Prelude.{ℕ, ◌+◌, ◌-◌, List, ◌++◌, Bool, false, not, ◌&&◌, ◌||◌, ◌==◌, chars, drop, filter, if◌then◌else◌, length, min, replicate, slice_index, slice_index_or, take}
 use Rattle.std.specs.List.{flat_map, list_all, range_with_len}
 use Rattle.std.specs.Str.{bytes_eq, is_utf8}
 use Rattle.unicode_width.specs.Width.{str_width}
@@ -18,14 +18,17 @@ column_starts line = filter (is_start line) (range_with_len 0 (length line))
 -- the bytes of a line in the column at this index, up to where the next one begins
 abbrev pub cell : List ℕ → List ℕ → ℕ → List ℕ
 cell starts line i =
-    drop (slice_index starts i) (take (unwrap_or (slice_get starts (i + 1)) (length line)) line)
+    drop (slice_index starts i) (take (slice_index_or starts (i + 1) (length line)) line)
+
+-- a text has only spaces
+abbrev pub is_blank : List ℕ → Bool
+is_blank text = list_all (λ b. b == 32) text
 
 -- two cells are the same but for spaces at their ends
 abbrev pub is_same_cell : List ℕ → List ℕ → Bool
 is_same_cell a b =
     let n = min (length a) (length b) in
-    bytes_eq (take n a) (take n b)
-    && (list_all (λ c. c == 32) (drop n a) && list_all (λ c. c == 32) (drop n b))
+    bytes_eq (take n a) (take n b) && (is_blank (drop n a) && is_blank (drop n b))
 
 -- the style of a cell: that of a change for a new requirement, in the column at index 4, that differs from the
 -- old one, at index 1

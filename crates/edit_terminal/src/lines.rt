@@ -44,6 +44,13 @@ pub(crate) fn is_underline(line: &[u8]) -> bool
     line.starts_with(b"=") && line.iter().all(|byte| *byte == b'=' || *byte == b' ')
 }
 
+/// Whether a line is the first one of a diff.
+pub(crate) fn is_diff_start(line: &[u8]) -> bool
+    ensures { result ≡ spec.is_diff_start line.now }
+{
+    line.starts_with(b"--- ")
+}
+
 /// Whether a line has the titles of a table, or underlines them.
 pub(crate) fn is_title(line: &[u8]) -> bool
     ensures { result ≡ spec.is_title line.now }

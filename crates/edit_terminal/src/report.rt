@@ -4,7 +4,7 @@ ghost use Rattle.std.specs.Io.KnownBytes.{Appends};
 ghost use Rattle.edit_terminal.specs.Report as spec;
 
 use crate::characters::write_for_terminal;
-use crate::lines::{beginning, is_title, is_underline};
+use crate::lines::{beginning, is_diff_start, is_title, is_underline};
 use crate::rows::{is_row, push_column_starts, write_row};
 use crate::styles::{Style, style_if, write_styled};
 use std::alloc::{AllocError, Global};
@@ -59,7 +59,7 @@ fn write_line<W: io::Write>(
 {
     if is_title(line) {
         write_styled(to, style_if(wanted, Style::Title), text_of(line)?)
-    } else if is_row(starts, line) {
+    } else if !is_diff_start(line) && is_row(starts, line) {
         write_row(to, wanted, starts, line)
     } else {
         write_message(to, wanted, line)
@@ -74,7 +74,7 @@ fn pass_line(starts: &mut Vec<usize>, line: &[u8]) -> Result<(), AllocError>
         starts.clear();
         push_column_starts(starts, line)
     } else {
-        if line.starts_with(b"--- ") {
+        if is_diff_start(line) {
             starts.clear();
         }
         Ok(())

@@ -1,6 +1,7 @@
 //! Rows of a table whose cells are padded by bytes, with cells as wide as a terminal shows them.
-ghost use Rattle.std.specs.Prelude.{◌≡◌, ◌<◌, ◌++◌, OnOk, length, replicate};
+ghost use Rattle.std.specs.Prelude.{◌≡◌, ◌<◌, ◌+◌, ◌++◌, OnOk, length, replicate, slice_index, slice_index_or};
 ghost use Rattle.std.specs.Io.KnownBytes.{Appends};
+ghost use Rattle.std.specs.Str.{is_utf8};
 ghost use Rattle.edit_terminal.specs.Rows as spec;
 
 use crate::styles::{Style, style_if, write_styled};
@@ -34,17 +35,39 @@ pub(crate) fn push_column_starts(starts: &mut Vec<usize>, line: &[u8]) -> Result
     Ok(())
 }
 
+/// Where the column at this index begins; 0 where there is none.
+fn column_start(starts: &[usize], i: usize) -> usize
+    ensures { result ≡ slice_index starts.now i }
+{
+    starts.get(i).copied().unwrap_or(0)
+}
+
+/// Where the column behind the one at this index begins; `length` where there is none.
+#[tactic(auto, using(std::proofs::lemmas::List::get_or_past))]
+fn column_end(starts: &[usize], i: usize, length: usize) -> usize
+    ensures { result ≡ slice_index_or starts.now (i + 1) length }
+{
+    if i < starts.len() {
+        starts.get(i + 1).copied().unwrap_or(length)
+    } else {
+        length
+    }
+}
+
 /// The bytes of a line in the column at this index, up to where the next one begins.
 fn cell<'a>(starts: &[usize], line: &'a [u8], i: usize) -> &'a [u8]
     ensures { result.now ≡ spec.cell starts.now line.now i }
 {
-    let from = starts.get(i).copied().unwrap_or(0);
-    let end = starts
-        .get(i.saturating_add(1))
-        .copied()
-        .unwrap_or(line.len())
-        .min(line.len());
+    let from = column_start(starts, i);
+    let end = column_end(starts, i, line.len()).min(line.len());
     &line[from.min(end)..end]
+}
+
+/// Whether a text has only spaces.
+fn is_blank(text: &[u8]) -> bool
+    ensures { result ≡ spec.is_blank text.now }
+{
+    text.iter().all(|byte| *byte == b' ')
 }
 
 /// Whether two cells are the same but for spaces at their ends.
@@ -52,9 +75,7 @@ fn is_same_cell(a: &[u8], b: &[u8]) -> bool
     ensures { result ≡ spec.is_same_cell a.now b.now }
 {
     let common = a.len().min(b.len());
-    a[..common] == b[..common]
-        && a[common..].iter().all(|byte| *byte == b' ')
-        && b[common..].iter().all(|byte| *byte == b' ')
+    a[..common] == b[..common] && is_blank(&a[common..]) && is_blank(&b[common..])
 }
 
 /// The style of the cell in the column at this index: that of a change for a new requirement that differs
@@ -87,11 +108,21 @@ fn write_cell<W: io::Write>(to: &mut W, style: Style, text: &str) -> io::Result<
     write_spaces(to, text.len().saturating_sub(text.width()))
 }
 
+/// Whether bytes are a text in UTF-8.
+fn is_text(bytes: &[u8]) -> bool
+    ensures { result ≡ is_utf8 bytes.now }
+{
+    match str::from_utf8(bytes) {
+        Ok(_) => true,
+        Err(_) => false,
+    }
+}
+
 /// Whether a line is a row of a table with columns, none of which begins within a character.
 pub(crate) fn is_row(starts: &[usize], line: &[u8]) -> bool
     ensures { result ≡ spec.is_row starts.now line.now }
 {
-    !starts.is_empty() && (0..starts.len()).all(|i| str::from_utf8(cell(starts, line, i)).is_ok())
+    !starts.is_empty() && (0..starts.len()).all(|i| is_text(cell(starts, line, i)))
 }
 
 /// Writes the cells of a row.

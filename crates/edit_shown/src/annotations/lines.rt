@@ -1,5 +1,5 @@
 //! The lines of requirements in the text of their manifest.
-ghost use Rattle.std.specs.Prelude.{◌≡◌, ◌≤◌, ℕ, List, IfErr, IfOk, length, option_map};
+ghost use Rattle.std.specs.Prelude.{◌≡◌, ◌≤◌, ◌==◌, ℕ, List, IfErr, IfOk, count_by, length, option_map};
 ghost use Rattle.edit_base.specs.Errors.{IsMemory};
 ghost use Rattle.edit_document.specs.Forms.{IfDocument};
 ghost use Rattle.edit_document.specs.Items.{place_view};
@@ -20,6 +20,13 @@ pub(crate) struct LineAt {
 /// The line of the first byte.
 pub(crate) const FIRST: LineAt = LineAt { at: 0, line: 1 };
 
+/// The number of line feeds in a text.
+fn count_line_feeds(bytes: &[u8]) -> usize
+    ensures { result ≡ count_by (λ b. b == 10) bytes.now }
+{
+    bytes.iter().filter(|byte| **byte == b'\n').count()
+}
+
 /// The line of the byte at an offset, counted on from the line of a byte that is not behind it.
 fn line_from(bytes: &[u8], from: LineAt, at: usize) -> usize
     requires line { IsLineAt bytes.now from }
@@ -28,7 +35,7 @@ fn line_from(bytes: &[u8], from: LineAt, at: usize) -> usize
 {
     let before = &bytes[..at.min(bytes.len())];
     let between = &before[from.at.min(before.len())..];
-    from.line + between.iter().filter(|byte| **byte == b'\n').count()
+    from.line + count_line_feeds(between)
 }
 
 /// The line of the byte at an offset, counted on from a known line where that is not behind it.

@@ -1,6 +1,6 @@
-use Rattle.std.proofs.Common.{◌≡◌, ◌++◌, map, string_bytes, take}
+use Rattle.std.proofs.Common.{◌≡◌, ◌++◌, map, take}
 use Rattle.std.specs.List.{flat_map}
-use Rattle.edit_fetch.specs.Addressless.{place_of, sources_in, without_address}
+use Rattle.edit_fetch.specs.Addressless.{place_in, place_of, sources_in, without_address}
 use Rattle.edit_fetch.proofs.addressless.addressless_sources.Given as goal
 
 abbrev pub invariant-loop-config : goal.invariant-loop-config
@@ -12,4 +12,4 @@ abbrev pub invariant-loop-key : goal.invariant-loop-key
 invariant-loop-key l =
     map place_of l.found.items
     ≡ without_address l.configs (flat_map sources_in (take l.config-index l.configs)
-    ++ take l.key-index (sources_in l.config))
+    ++ map (place_in l.config) (take l.key-index l.config.sources.items))
