@@ -273,7 +273,7 @@ def policies():
     cause = '  cause: `workspace.metadata.cargo-edit.pinned` has to be "allow" or "ignore"\n'
     upgrade(50, first, "  at @/Cargo.toml:2:10\n", cause, "  help: `--no-policy` ignores the policy\n")
     workspace(root=table + "never_lower = true\n")
-    cause = "  cause: `workspace.metadata.cargo-edit.never_lower` is no key of a policy\n"
+    cause = "  cause: `workspace.metadata.cargo-edit.never_lower` is not a key of a policy\n"
     upgrade(50, first, "  at @/Cargo.toml:2:15\n", cause, "  help: a policy has the keys ")
 
 

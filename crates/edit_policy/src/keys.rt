@@ -27,7 +27,7 @@ pub enum Expected {
 impl fmt::Display for Expected {
     fn fmt<W: fmt::Write>(&self, f: &mut fmt::Formatter<W>) -> fmt::Result {
         f.write_str(match self {
-            Expected::Absent => "is no key of a policy",
+            Expected::Absent => "is not a key of a policy",
             Expected::Table => "has to be a table",
             Expected::Texts => "has to be an array of strings",
             Expected::Text => "has to be a string",
