@@ -1,6 +1,6 @@
 -- The policy that an upgrade follows, from its steps.
-use Rattle.std.proofs.Common.{◌≡◌, ◌∙◌, ◌&&◌, ℕ, Bor, List, None, Option, Some, ap, false, inl, inr, length, map, refl, subst, sym, true}
-use Rattle.std.specs.Prelude.{◌⊎◌, is_none, is_some, option_copied, option_map}
+use Rattle.std.proofs.Common.{◌≡◌, ◌∙◌, ℕ, Bor, List, Option, ap, inl, inr, length, map, subst, sym, true}
+use Rattle.std.specs.Prelude.{◌⊎◌, option_copied, option_map}
 use Rattle.std.proofs.lemmas.List.{length-map}
 use Rattle.edit_base.specs.Errors.{IsMemory, number_of}
 use Rattle.edit_base.specs.declared.errors.DeviceCall.TheVariants as call
@@ -18,28 +18,23 @@ use Rattle.edit_policy.specs.Manifests.{IsManifestFault}
 use Rattle.edit_policy.specs.declared.error.PolicyError.{PolicyError}
 use Rattle.edit_policy.specs.declared.error.PolicyError.TheVariants.{Failed, Unexpected}
 use Rattle.edit_sources.specs.Configured.{given}
-use Rattle.edit_sources.specs.declared.published.PublishedBefore.{PublishedBefore}
-use Rattle.edit_steps.proofs.ReadLemmas.{before, refused_on, since}
+use Rattle.edit_steps.proofs.ReadLemmas.{before, refused_on}
 use Rattle.edit_steps.specs.Causes.{HasNoIndex, IsReadCause}
-use Rattle.edit_steps.specs.Shared.{HasLists, lists_for}
+use Rattle.edit_steps.specs.Shared.{HasLists}
 use Rattle.edit_steps.specs.Sources.{AreDocuments, MayBePlanned}
 use Rattle.edit_steps.specs.declared.upgrade_read.index.IndexSource.{IndexSource}
-use Rattle.edit_steps.specs.declared.upgrade_read.source_request.RustChoice.{RustChoice}
-use Rattle.edit_steps.specs.declared.upgrade_read.source_request.RustChoice.TheVariants as choice
 use Rattle.edit_steps.specs.declared.upgrade_read.sources.Sources.{Sources}
 use Rattle.edit_steps.specs.declared.upgrade_read.target.Target.{Target}
-use Rattle.edit_store.specs.Store.{Files, IsCallError, OnlyReads, StoreView}
+use Rattle.edit_store.specs.Store.{IsCallError, OnlyReads, StoreView}
 use Rattle.edit_tree.specs.DocumentViews.{DocumentViews}
 use Rattle.edit_version.specs.declared.rust_version.RustVersion.{RustVersion}
 use Rattle.edit_program.proofs.CountLemmas.{error_counts, memory_counts}
 use Rattle.edit_program.proofs.UpgradeLemmas.{same_workspace}
-use Rattle.edit_program.specs.Followed.{AreBounded, AreForPolicy, AreForRust, AreForVersion, HasBadPolicy, HasPolicyFault, HasRoot, IsFollowing, IsIndexBy, IsUnfollowed, with_index}
+use Rattle.edit_program.specs.Followed.{AreForRust, AreOverIndex, HasBadPolicy, HasPolicyFault, HasRoot, IsUnfollowed, with_index}
 use Rattle.edit_program.specs.LockRead.{HasNoLock}
-use Rattle.edit_program.specs.Merging.{IsBoundBy}
-use Rattle.edit_program.specs.Planned.{to_request}
+use Rattle.edit_program.specs.Planned.{to_manifest_request}
 use Rattle.edit_program.specs.Reading.{IsRead}
 use Rattle.edit_program.specs.declared.upgrade_run.following.Readings.{Readings}
-use Rattle.edit_program.specs.declared.upgrade_run.reading.ReadFiles.{ReadFiles}
 use Rattle.edit_program.specs.declared.upgrade_run.upgrade_args.UpgradeArgs.{UpgradeArgs}
 
 -- the manifest in the root, where the workspace and the inputs are borrowed
@@ -92,53 +87,13 @@ unfollowed args target e (inr fault) = inr (inl fault)
 pub policy_refused : (args : UpgradeArgs) (current : List ℕ) (home : Option (List ℕ)) (old new : StoreView)
     (s : Sources) (e : Error) → (old.tells ≡ true → IsRead args current home old.file_at s)
     → IsMemory e ⊎ IsUnfollowed args s.target e
-    → (IsReadCause current home (to_request args) old new e
+    → (IsReadCause current home (to_manifest_request args) old new e
     ⊎ (old.tells ≡ true → HasNoLock args.to_lockfile old.file_at current (given args.lock_file) e))
-    ⊎ (old.tells ≡ true → HasBadPolicy args current home old.file_at e)
+    ⊎ (old.tells ≡ true → HasBadPolicy args current home old.file_at e
+    ⊎ HasNoIndex old.file_at current (given args.index_file) e)
 policy_refused args current home old new s e read (inl memory) = inl (inl (inl (inl (inl memory))))
 policy_refused args current home old new s e read (inr fault) =
-    inr (λ t. record { sources = s; read = read t; fault = fault })
-
--- inputs for the Rust version of a policy come with the same index
-version_index : (version : Option RustVersion) (own s : Sources) → AreForVersion version own s
-    → s.index ≡ own.index
-version_index None own s is = ap (λ (x : Sources). x.index) is
-version_index (Some version) own s are = are.index
-
-policy_index : (rust : RustChoice) (version : Option RustVersion) (own s : Sources)
-    → AreForPolicy rust version own s → s.index ≡ own.index
-policy_index choice.Own version own s are = version_index version own s are
-policy_index choice.Ignored version own s is = ap (λ (x : Sources). x.index) is
-policy_index (choice.Given _) version own s is = ap (λ (x : Sources). x.index) is
-
--- the index that was read is that of what follows the policy
-pub index_stays : (args : UpgradeArgs) (current : List ℕ) (files : Files) (own : ReadFiles) (r : Readings)
-    → IsFollowing args own r → IsIndexBy args.published_before args current files own.sources.index
-    → IsIndexBy args.published_before args current files r.sources.index
-index_stays args current files own r follows read =
-    subst (λ (index : IndexSource). IsIndexBy args.published_before args current files index)
-    (sym (policy_index args.rust r.policy.rust_version own.sources r.sources follows.sources)) read
-
--- a policy without an age, or beside a given bound, leaves the bound as it is given
-pub bound_stays : (first : Option PublishedBefore) (time : Option (List ℕ)) (age : Option ℕ)
-    (bound : Option PublishedBefore) → IsBoundBy first time age bound
-    → (is_none first && is_some age) ≡ false → first ≡ bound
-bound_stays (Some first) time age bound is set = sym is
-bound_stays None time None bound is set = sym is
-bound_stays None time (Some days) bound is set = absurd (cc set)
-
--- readings whose index has their bound already
-pub bounded_already : (args : UpgradeArgs) (current : List ℕ) (files : Files) (r : Readings)
-    → (is_none args.published_before && is_some r.policy.min_age) ≡ false
-    → IsIndexBy args.published_before args current files r.sources.index
-    → IsBoundBy args.published_before (given args.time) r.policy.min_age r.args.published_before
-    → AreBounded args current files r r
-bounded_already args current files r set read bound = record {
-  same = refl;
-  index = subst (λ (b : Option PublishedBefore). IsIndexBy b args current files r.sources.index)
-      (bound_stays args.published_before (given args.time) r.policy.min_age r.args.published_before bound set)
-      read;
-}
+    inr (λ t. inl (record { sources = s; read = read t; fault = fault }))
 
 -- files may be planned over another index
 pub planned_over : (s t : Sources) (index : IndexSource) → t ≡ with_index index s → MayBePlanned s
@@ -147,37 +102,23 @@ planned_over s t index is may =
     subst MayBePlanned (sym is)
     (record { paths = may.paths; each = may.each; lists = may.lists; documents = may.documents })
 
--- an index that cannot be read again
+-- the index cannot be read
 pub index_refused : (args : UpgradeArgs) (current : List ℕ) (home : Option (List ℕ)) (old mid new : StoreView)
-    (s : Sources) (e : Error) → OnlyReads old mid
-    → (old.tells ≡ true → IsRead args current home old.file_at s)
+    (e : Error) → OnlyReads old mid
     → IsCallError call.Read mid new e
     ⊎ (mid.tells ≡ true → HasNoIndex mid.file_at current (given args.index_file) e)
-    → IsReadCause current home (to_request args) old new e
-index_refused args current home old mid new s e reads read (inl refused) =
-    inl (inr (refused_on call.Read old mid new e reads refused))
-index_refused args current home old mid new s e reads read (inr wrong) =
-    inr (λ t. inr (inr (inr (record {
-      workspace = s.target.workspace;
-      inputs = s.target.inputs.items;
-      configs = lists_for s.configs;
-      pair = (read t).pair;
-      read = (read t).target;
-      named = (read t).named;
-      configured = (read t).configured;
-      cause = before (λ files. HasNoIndex files current (given args.index_file) e) old mid reads wrong t;
-    }))))
+    → (IsReadCause current home (to_manifest_request args) old new e
+    ⊎ (old.tells ≡ true → HasNoLock args.to_lockfile old.file_at current (given args.lock_file) e))
+    ⊎ (old.tells ≡ true → HasBadPolicy args current home old.file_at e
+    ⊎ HasNoIndex old.file_at current (given args.index_file) e)
+index_refused args current home old mid new e reads (inl refused) =
+    inl (inl (inl (inr (refused_on call.Read old mid new e reads refused))))
+index_refused args current home old mid new e reads (inr wrong) =
+    inr (λ t. inr (before (λ files. HasNoIndex files current (given args.index_file) e) old mid reads wrong t))
 
--- readings that were bounded behind reads
-pub bounded_before : (args : UpgradeArgs) (current : List ℕ) (old mid : StoreView) (followed r : Readings)
-    → OnlyReads old mid
-    → (old.tells ≡ true → IsIndexBy args.published_before args current old.file_at followed.sources.index)
-    → IsBoundBy args.published_before (given args.time) followed.policy.min_age followed.args.published_before
-    → (mid.tells ≡ true → IsIndexBy args.published_before args current mid.file_at followed.sources.index
-    → IsBoundBy args.published_before (given args.time) followed.policy.min_age followed.args.published_before
-    → AreBounded args current mid.file_at followed r)
-    → old.tells ≡ true → AreBounded args current old.file_at followed r
-bounded_before args current old mid followed r reads read bound are t =
-    before (λ files. AreBounded args current files followed r) old mid reads
-    (λ m. are m (since (λ files. IsIndexBy args.published_before args current files followed.sources.index)
-    old mid reads read m) bound) t
+-- readings over an index that was read behind reads
+pub over_before : (args : UpgradeArgs) (current : List ℕ) (old mid : StoreView) (followed r : Readings)
+    → OnlyReads old mid → (mid.tells ≡ true → AreOverIndex args current mid.file_at followed r)
+    → old.tells ≡ true → AreOverIndex args current old.file_at followed r
+over_before args current old mid followed r reads are t =
+    before (λ files. AreOverIndex args current files followed r) old mid reads are t

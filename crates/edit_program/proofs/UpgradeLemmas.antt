@@ -23,7 +23,7 @@ use Rattle.edit_store.specs.Store.{OnlyReads, SameFiles, StoreView}
 use Rattle.edit_upgrade.specs.Inputs.{outputs_at}
 use Rattle.edit_upgrade.specs.declared.upgrade.UpgradePlan.{UpgradePlan}
 use Rattle.edit_steps.proofs.ReadLemmas.{refused_on}
-use Rattle.edit_steps.specs.Causes.{IsReadCause}
+use Rattle.edit_steps.specs.Causes.{HasNoIndex, IsReadCause}
 use Rattle.edit_steps.specs.Shared.{lists_for}
 use Rattle.edit_steps.specs.declared.upgrade_read.target.Target.{Target}
 use Rattle.edit_program.proofs.StagingLemmas.{all_stopped_after, behind_after}
@@ -33,7 +33,7 @@ use Rattle.edit_program.specs.Delivery.{Delivery, calls_against, calls_of}
 use Rattle.edit_program.specs.Followed.{HasBadPolicy, IsReady}
 use Rattle.edit_program.specs.LockRead.{HasNoLock}
 use Rattle.edit_program.specs.UpgradeCauses.{IsUpgradeCause}
-use Rattle.edit_program.specs.Planned.{IsPlanCause, IsPlanned, index_view, restriction, to_request, upgrade_index, upgrade_test}
+use Rattle.edit_program.specs.Planned.{IsPlanCause, IsPlanned, index_view, restriction, to_manifest_request, upgrade_index, upgrade_test}
 use Rattle.edit_program.specs.Run.{run_at}
 use Rattle.edit_program.specs.StderrText.{upgrade_stderr_text}
 use Rattle.edit_program.specs.Upgrading.{IsUpgradeResult, IsBroken, IsPathOf, IsPlannedFor, IsUpgraded, called_workspace, delivery_by, delivery_for, diff_root, has_outputs}
@@ -235,7 +235,7 @@ broken HasFields args current home local old mid new r plan path reads ready pla
 -- what the arguments name is not read
 pub read_cause : (HasFields : List ℕ → Type 0) (args : UpgradeArgs) (current : List ℕ) (home : Option (List ℕ))
     (local old new : StoreView) (e : Error) → SameFiles old.file_at new.file_at
-    → IsReadCause current home (to_request args) old new e
+    → IsReadCause current home (to_manifest_request args) old new e
     → IsUpgradeCause HasFields args (run_at current home local old new) e
 read_cause HasFields args current home local old new e same (inl failed) = inr (inl (same, failed))
 read_cause HasFields args current home local old new e same (inr wrong) =
@@ -244,7 +244,7 @@ read_cause HasFields args current home local old new e same (inr wrong) =
 -- nor its lock file
 pub lock_cause : (HasFields : List ℕ → Type 0) (args : UpgradeArgs) (current : List ℕ) (home : Option (List ℕ))
     (local old new : StoreView) (e : Error) → SameFiles old.file_at new.file_at
-    → IsReadCause current home (to_request args) old new e
+    → IsReadCause current home (to_manifest_request args) old new e
     ⊎ (old.tells ≡ true → HasNoLock args.to_lockfile old.file_at current (given args.lock_file) e)
     → IsUpgradeCause HasFields args (run_at current home local old new) e
 lock_cause HasFields args current home local old new e same (inl cause) =
@@ -252,12 +252,13 @@ lock_cause HasFields args current home local old new e same (inl cause) =
 lock_cause HasFields args current home local old new e same (inr none) =
     inr (inr (inr (inr (λ t. inl (same, inl (none t))))))
 
--- nor can its policy be followed
+-- nor can its policy be followed, or its index be read
 pub policy_cause : (HasFields : List ℕ → Type 0) (args : UpgradeArgs) (current : List ℕ)
     (home : Option (List ℕ)) (local old new : StoreView) (e : Error) → SameFiles old.file_at new.file_at
-    → (IsReadCause current home (to_request args) old new e
+    → (IsReadCause current home (to_manifest_request args) old new e
     ⊎ (old.tells ≡ true → HasNoLock args.to_lockfile old.file_at current (given args.lock_file) e))
-    ⊎ (old.tells ≡ true → HasBadPolicy args current home old.file_at e)
+    ⊎ (old.tells ≡ true → HasBadPolicy args current home old.file_at e
+    ⊎ HasNoIndex old.file_at current (given args.index_file) e)
     → IsUpgradeCause HasFields args (run_at current home local old new) e
 policy_cause HasFields args current home local old new e same (inl cause) =
     lock_cause HasFields args current home local old new e same cause

@@ -67,7 +67,7 @@ pub record HasUntimedAge (args : UpgradeArgs) (target : Target) (e : Error) : Ty
   pub policy : Policy
   pub is : IsFollowed args.no_policy target policy
   pub lacks : LacksTime args.published_before (given args.time) policy.min_age
-  pub error : e ≡ error.Policy
+  pub cause : e ≡ error.Policy
 
 -- the policy cannot be followed: it is invalid, or sets an age without a time from which that counts back; or
 -- memory runs out
@@ -111,13 +111,13 @@ abbrev pub IsIndexBy : Option PublishedBefore → UpgradeArgs → List ℕ → F
 IsIndexBy bound args current files index =
     IsIndexOf bound files current (given args.index_file) (given args.index_dir) index
 
--- the same readings over the given index, which was read with their bound
-pub record AreBounded (args : UpgradeArgs) (current : List ℕ) (files : Files) (before r : Readings)
+-- the same readings over the given index, which was read with the bound of their arguments
+pub record AreOverIndex (args : UpgradeArgs) (current : List ℕ) (files : Files) (before r : Readings)
     : Type 0 where
   pub same : r ≡ record before { sources = with_index r.sources.index before.sources }
   pub index : IsIndexBy r.args.published_before args current files r.sources.index
 
--- the given files and the lock file were read, the policy is followed, and the index has the bound
+-- the given files and the lock file were read, the policy is followed, and the index was read with the bound
 pub record IsReady (args : UpgradeArgs) (current : List ℕ) (home : Option (List ℕ)) (files : Files)
     (r : Readings) : Type 0 where
   pub own : ReadFiles
@@ -126,7 +126,7 @@ pub record IsReady (args : UpgradeArgs) (current : List ℕ) (home : Option (Lis
       (option_map lock_view own.lock)
   pub followed : Readings
   pub follows : IsFollowing args own followed
-  pub bounded : AreBounded args current files followed r
+  pub over : AreOverIndex args current files followed r
 
 -- the given files were read, and the policy of the manifest in the root cannot be followed
 pub record HasBadPolicy (args : UpgradeArgs) (current : List ℕ) (home : Option (List ℕ)) (files : Files)

@@ -43,9 +43,10 @@ to_request args = record {
   rust = rust_request args.rust;
 }
 
--- the files to read where only the lookups are requested: no index
-abbrev pub to_lookup_request : UpgradeArgs → RequestView
-to_lookup_request args = record {
+-- the files to read without an index: before the policy is known, which may bound it, and where only the lookups
+-- are requested
+abbrev pub to_manifest_request : UpgradeArgs → RequestView
+to_manifest_request args = record {
   manifest = given args.manifest_path;
   metadata = given args.metadata_json;
   index = None;

@@ -12,11 +12,11 @@ use Rattle.edit_sources.specs.Index.{IndexView}
 use Rattle.edit_store.specs.Store.{Files, IsCallError, SameFiles, StoreView}
 use Rattle.edit_upgrade.specs.declared.decision.options.Options.{Options}
 use Rattle.edit_steps.specs.RequestView.{RequestView}
-use Rattle.edit_steps.specs.Causes.{IsFailure, HasBadSources}
+use Rattle.edit_steps.specs.Causes.{HasBadSources, HasNoIndex, IsFailure}
 use Rattle.edit_steps.specs.Shared.{lists_for}
 use Rattle.edit_steps.specs.Sources.{AreRead}
 use Rattle.edit_steps.specs.declared.upgrade_read.sources.Sources.{Sources}
-use Rattle.edit_program.specs.Planned.{IsPlanCause, to_request, to_lookup_request, upgrade_index}
+use Rattle.edit_program.specs.Planned.{IsPlanCause, to_manifest_request, upgrade_index}
 use Rattle.edit_program.specs.Run.{Run}
 use Rattle.edit_program.specs.Upgrading.{IsPlannedTo}
 use Rattle.edit_program.specs.declared.upgrade_run.following.Readings.{Readings}
@@ -39,13 +39,14 @@ pub record HasNoUpgradePlan (args : UpgradeArgs) (current : List ℕ) (home : Op
   pub cause : IsPlanCause readings.args.options readings.sources.target.inputs.items
       (lists_for readings.sources.configs) (upgrade_index readings local) e
 
--- the cause of an error before there is a plan: reading the lock file or another file fails, the policy cannot
--- be followed, or planning fails
+-- the cause of an error before there is a plan: the lock file or another file cannot be read, the policy cannot
+-- be followed, the index cannot be read, or planning fails
 abbrev pub IsUnplanned : UpgradeArgs → List ℕ → Option (List ℕ) → StoreView → Files → Error → Type 0
 IsUnplanned args current home local files e =
     HasNoLock args.to_lockfile files current (given args.lock_file) e
-    ⊎ (HasBadSources files current home (to_request args) e
-    ⊎ (HasBadPolicy args current home files e ⊎ HasNoUpgradePlan args current home local files e))
+    ⊎ (HasBadSources files current home (to_manifest_request args) e
+    ⊎ ((HasBadPolicy args current home files e ⊎ HasNoIndex files current (given args.index_file) e)
+    ⊎ HasNoUpgradePlan args current home local files e))
 
 -- the cause in the given files: there is no plan, and each file is unchanged; or the plan is not carried
 -- out
@@ -69,8 +70,8 @@ IsUpgradeCause Prints args run e =
 -- empty index does, as for an invalid name
 abbrev pub HasBadLookupInput : UpgradeArgs → List ℕ → Option (List ℕ) → Files → Error → Type 0
 HasBadLookupInput args current home files e =
-    HasBadSources files current home (to_lookup_request args) e
-    ⊎ HasNoPlan args.options (λ s. no_view) (to_lookup_request args) current home files e
+    HasBadSources files current home (to_manifest_request args) e
+    ⊎ HasNoPlan args.options (λ s. no_view) (to_manifest_request args) current home files e
 
 -- the cause of an error of `looks`: out of memory or a device error, a failed print, or the given files
 abbrev pub IsLookupsCause : UpgradeArgs → List ℕ → Option (List ℕ) → StoreView → StoreView → Error → Type 0

@@ -1,5 +1,5 @@
 //! Follows the policy of the manifest in the root.
-ghost use Rattle.std.specs.Prelude.{◌≡◌, ◌≢◌, ◌⊎◌, ◌&&◌, IfErr, IfOk, is_none, is_some, option_copied, true};
+ghost use Rattle.std.specs.Prelude.{◌≡◌, ◌≢◌, ◌⊎◌, IfErr, IfOk, option_copied, true};
 ghost use Rattle.edit_base.specs.Errors.{IsMemory, number_of};
 ghost use Rattle.edit_base.specs.declared.errors.DeviceCall.TheVariants as call;
 ghost use Rattle.edit_sources.specs.Configured.{given};
@@ -7,10 +7,9 @@ ghost use Rattle.edit_steps.specs.Causes.{HasNoIndex, IsReadCause};
 ghost use Rattle.edit_steps.specs.Faults.{CountsFault};
 ghost use Rattle.edit_steps.specs.Sources.{MayBePlanned};
 ghost use Rattle.edit_store.specs.Store.{IsCallError, OnlyReads};
-ghost use Rattle.edit_program.specs.Followed.{AreBounded, AreForPolicy, AreForRust, AreForVersion, HasBadPolicy, HasFaultIn, HasPolicyFault, HasRootFault, IsFollowed, IsFollowing, IsIndexBy, IsPolicyIn, IsReady, IsRootPolicy, IsUnfollowed, with_index};
+ghost use Rattle.edit_program.specs.Followed.{AreForPolicy, AreForRust, AreForVersion, AreOverIndex, HasBadPolicy, HasFaultIn, HasPolicyFault, HasRootFault, IsFollowed, IsFollowing, IsIndexBy, IsPolicyIn, IsReady, IsRootPolicy, IsUnfollowed, with_index};
 ghost use Rattle.edit_program.specs.LockRead.{HasNoLock};
-ghost use Rattle.edit_program.specs.Merging.{IsBoundBy};
-ghost use Rattle.edit_program.specs.Planned.{to_request};
+ghost use Rattle.edit_program.specs.Planned.{to_manifest_request};
 
 use crate::upgrade_run::merging::merge_args;
 use crate::upgrade_run::policy_age::policy_bound;
@@ -159,14 +158,7 @@ fn follow_policy<'a>(
     })
 }
 
-/// Whether the policy sets the bound on the time of publication, which the index was read without.
-fn is_bound_by_policy(args: &UpgradeArgs<'_>, policy: &Policy) -> bool
-    ensures { result ≡ (is_none args.now.published_before && is_some policy.now.min_age) }
-{
-    args.published_before.is_none() && policy.min_age.is_some()
-}
-
-/// The files that were read, with the given index read again, by this bound.
+/// The files that were read, over the given index, which is read with this bound.
 fn with_index<S: Store>(
     alloc: Global,
     args: &UpgradeArgs<'_>,
@@ -205,9 +197,8 @@ fn with_index<S: Store>(
     })
 }
 
-/// What was read, over an index that has the bound on the time of publication: where the policy sets that, a
-/// given index file is read again.
-fn with_bound<'a, S: Store>(
+/// What was read, over the given index, which is read with the bound of the arguments that it has.
+fn over_index<'a, S: Store>(
     alloc: Global,
     args: &UpgradeArgs<'_>,
     readings: Readings<'a>,
@@ -215,21 +206,14 @@ fn with_bound<'a, S: Store>(
     files: &mut S,
 ) -> RunResult<Readings<'a>>
     ensures store { OnlyReads (S.view files.old) (S.view files.new) }
-    ensures bounded { IfOk result (λ r. (S.view files.old).tells ≡ true
-        → IsIndexBy args.now.published_before args.now current.now (S.view files.old).file_at
-        readings.sources.index
-        → IsBoundBy args.now.published_before (given args.now.time) readings.policy.min_age
-        readings.args.published_before
-        → AreBounded args.now current.now (S.view files.old).file_at readings r) }
+    ensures index { IfOk result (λ r. (S.view files.old).tells ≡ true
+        → AreOverIndex args.now current.now (S.view files.old).file_at readings r) }
     ensures planned { MayBePlanned readings.sources → IfOk result (λ r. MayBePlanned r.sources) }
     ensures error { IfErr result (λ r. IsCallError call.Read (S.view files.old) (S.view files.new) r.error
         ⊎ ((S.view files.old).tells ≡ true
         → HasNoIndex (S.view files.old).file_at current.now (given args.now.index_file) r.error)) }
     ensures counted { IfErr result (λ r. CountsFault (S.view files.old) (S.view files.new) r.error) }
 {
-    if !is_bound_by_policy(args, &readings.policy) {
-        return Ok(readings);
-    }
     let Readings {
         sources,
         lock,
@@ -246,8 +230,8 @@ fn with_bound<'a, S: Store>(
     })
 }
 
-/// Reads the given lock file and the files that the upgrade depends on, and follows the policy of the manifest
-/// in the root. No file changes.
+/// Reads the given lock file and the manifests, follows the policy of the manifest in the root, and then reads
+/// the index, which the policy may bound. No file changes.
 pub(crate) fn read<'a, S: Store>(
     alloc: Global,
     args: &UpgradeArgs<'a>,
@@ -260,16 +244,17 @@ pub(crate) fn read<'a, S: Store>(
         → IsReady args.now current.now (given cargo_home.entry) (S.view files.old).file_at r) }
     ensures planned { IfOk result (λ r. MayBePlanned r.sources) }
     ensures error { IfErr result (λ r.
-        (IsReadCause current.now (given cargo_home.entry) (to_request args.now)
+        (IsReadCause current.now (given cargo_home.entry) (to_manifest_request args.now)
         (S.view files.old) (S.view files.new) r.error
         ⊎ ((S.view files.old).tells ≡ true
         → HasNoLock args.now.to_lockfile (S.view files.old).file_at current.now (given args.now.lock_file)
         r.error))
         ⊎ ((S.view files.old).tells ≡ true
-        → HasBadPolicy args.now current.now (given cargo_home.entry) (S.view files.old).file_at r.error)) }
+        → HasBadPolicy args.now current.now (given cargo_home.entry) (S.view files.old).file_at r.error
+        ⊎ HasNoIndex (S.view files.old).file_at current.now (given args.now.index_file) r.error)) }
     ensures counted { IfErr result (λ r. CountsFault (S.view files.old) (S.view files.new) r.error) }
 {
     let own = read_files(alloc, args, current, cargo_home, files)?;
     let readings = follow_policy(alloc, args, own)?;
-    with_bound(alloc, args, readings, current, files)
+    over_index(alloc, args, readings, current, files)
 }

@@ -9,7 +9,7 @@ ghost use Rattle.edit_steps.specs.Faults.{CountsFault};
 ghost use Rattle.edit_steps.specs.Sources.{MayBePlanned};
 ghost use Rattle.edit_store.specs.Store.{OnlyReads, IsCallError};
 ghost use Rattle.edit_program.specs.LockRead.{HasNoLock, IsLockAt, IsLockRead};
-ghost use Rattle.edit_program.specs.Planned.{to_request};
+ghost use Rattle.edit_program.specs.Planned.{to_manifest_request};
 ghost use Rattle.edit_program.specs.Reading.{IsRead};
 
 use crate::upgrade_run::upgrade_args::UpgradeArgs;
@@ -92,7 +92,8 @@ fn read_lock<S: Store>(
     }
 }
 
-/// Reads the given lock file, and then the files that the upgrade depends on. No file changes.
+/// Reads the given lock file, and then the other files that the upgrade depends on, without an index. No file
+/// changes.
 pub(crate) fn read_files<S: Store>(
     alloc: Global,
     args: &UpgradeArgs<'_>,
@@ -107,7 +108,7 @@ pub(crate) fn read_files<S: Store>(
         → IsLockRead args.now.to_lockfile (S.view files.old).file_at current.now (given args.now.lock_file)
         (option_map lock_view r.lock)) }
     ensures planned { IfOk result (λ r. MayBePlanned r.sources) }
-    ensures error { IfErr result (λ r. IsReadCause current.now (given cargo_home.entry) (to_request args.now)
+    ensures error { IfErr result (λ r. IsReadCause current.now (given cargo_home.entry) (to_manifest_request args.now)
         (S.view files.old) (S.view files.new) r.error
         ⊎ ((S.view files.old).tells ≡ true
         → HasNoLock args.now.to_lockfile (S.view files.old).file_at current.now (given args.now.lock_file)
@@ -115,6 +116,12 @@ pub(crate) fn read_files<S: Store>(
     ensures counted { IfErr result (λ r. CountsFault (S.view files.old) (S.view files.new) r.error) }
 {
     let lock = read_lock(alloc, args.lock_file, args.to_lockfile, current, files)?;
-    let sources = read_sources(alloc, &args.to_request(), current, cargo_home, files)?;
+    let sources = read_sources(
+        alloc,
+        &args.to_manifest_request(),
+        current,
+        cargo_home,
+        files,
+    )?;
     Ok(ReadFiles { sources, lock })
 }

@@ -1,7 +1,7 @@
 //! The arguments of `upgrade`.
 ghost use Rattle.std.specs.Prelude.{◌≡◌};
 ghost use Rattle.edit_steps.specs.RequestView.{request_view};
-ghost use Rattle.edit_program.specs.Planned.{to_request, to_lookup_request};
+ghost use Rattle.edit_program.specs.Planned.{to_request, to_manifest_request};
 
 use edit_policy::GivenChoices;
 use edit_shown::Presentation;
@@ -64,15 +64,24 @@ impl<'a> UpgradeArgs<'a> {
         }
     }
 
-    /// The files to read where only the lookups are requested: no index.
-    pub(crate) fn to_lookup_request(&self) -> SourceRequest<'a>
-        ensures { request_view result ≡ to_lookup_request self.now }
+    /// The files to read before the policy is known, which may bound the index: no index.
+    pub(crate) fn to_manifest_request(&self) -> SourceRequest<'a>
+        ensures { request_view result ≡ to_manifest_request self.now }
     {
         SourceRequest {
             index_file: None,
             index_dir: None,
-            writes: false,
             ..self.to_request()
+        }
+    }
+
+    /// The files to read where only the lookups are requested: no index.
+    pub(crate) fn to_lookup_request(&self) -> SourceRequest<'a>
+        ensures { request_view result ≡ to_manifest_request self.now }
+    {
+        SourceRequest {
+            writes: false,
+            ..self.to_manifest_request()
         }
     }
 }

@@ -48,7 +48,7 @@ returns-in_err-bound-clause-error c =
       policy = c.in_ok-policy.policy;
       is = c.in_ok-policy.ensures.policy;
       lacks = c.in_err-bound.ensures.error.0;
-      error = c.in_err-bound.ensures.error.1;
+      cause = c.in_err-bound.ensures.error.1;
     })))
 
 pub returns-in_err-bound-clause-counted : goal.returns-in_err-bound-clause-counted

@@ -3,14 +3,14 @@ use Rattle.std.proofs.lemmas.Result.{IfErr-weaker, IfOk-weaker}
 use Rattle.std.specs.Prelude.{◌⊎◌}
 use Rattle.edit_sources.specs.Configured.{given}
 use Rattle.edit_steps.proofs.ErrorFields.{failure_has}
-use Rattle.edit_steps.specs.Causes.{IsReadCause}
+use Rattle.edit_steps.specs.Causes.{HasNoIndex, IsReadCause}
 use Rattle.edit_steps.specs.Faults.{CountsFault}
 use Rattle.edit_program.specs.Followed.{HasBadPolicy}
 use Rattle.edit_program.specs.LockRead.{HasNoLock}
-use Rattle.edit_program.specs.Planned.{to_request}
+use Rattle.edit_program.specs.Planned.{to_manifest_request}
 use Rattle.edit_program.specs.Reading.{IsRead}
 use Rattle.edit_program.proofs.CountLemmas.{fault_before}
-use Rattle.edit_program.proofs.PolicyLemmas.{bounded_before, index_refused, index_stays, policy_refused}
+use Rattle.edit_program.proofs.PolicyLemmas.{index_refused, over_before, policy_refused}
 use Rattle.edit_program.proofs.upgrade_run.following.read.Goals as goal
 
 pub returns-in_err-own-clause-error : goal.returns-in_err-own-clause-error
@@ -22,9 +22,10 @@ returns-in_err-own-clause-error g c =
     let new = g.S.Store.view c.read_files.new.files in
     let e = c.in_err-own.field-0.0 in
     failure_has c.from_residual.result e
-    (λ error. (IsReadCause current home (to_request args) old new error
+    (λ error. (IsReadCause current home (to_manifest_request args) old new error
     ⊎ (old.tells ≡ true → HasNoLock args.to_lockfile old.file_at current (given args.lock_file) error))
-    ⊎ (old.tells ≡ true → HasBadPolicy args current home old.file_at error))
+    ⊎ (old.tells ≡ true → HasBadPolicy args current home old.file_at error
+    ⊎ HasNoIndex old.file_at current (given args.index_file) error))
     c.from_residual.ensures.1 (inl c.in_err-own.ensures.error)
 
 pub returns-in_err-own-clause-counted : goal.returns-in_err-own-clause-counted
@@ -45,9 +46,10 @@ returns-in_err-readings-clause-error g c =
     let read : old.tells ≡ true → IsRead args current home old.file_at s = c.in_ok-own.ensures.read in
     let e = c.in_err-readings.field-0.0 in
     failure_has c.from_residual-in_err-readings.result e
-    (λ error. (IsReadCause current home (to_request args) old new error
+    (λ error. (IsReadCause current home (to_manifest_request args) old new error
     ⊎ (old.tells ≡ true → HasNoLock args.to_lockfile old.file_at current (given args.lock_file) error))
-    ⊎ (old.tells ≡ true → HasBadPolicy args current home old.file_at error))
+    ⊎ (old.tells ≡ true → HasBadPolicy args current home old.file_at error
+    ⊎ HasNoIndex old.file_at current (given args.index_file) error))
     c.from_residual-in_err-readings.ensures.1
     (policy_refused args current home old new s e.error read c.in_err-readings.ensures.error)
 
@@ -67,22 +69,19 @@ returns-clause-ready g c =
     let mid = g.S.Store.view c.read_files.new.files in
     let own = c.in_ok-own.own in
     let followed = c.in_ok-readings.readings in
-    let follows = c.in_ok-readings.ensures.follows in
-    IfOk-weaker c.with_bound.result _ _
+    IfOk-weaker c.over_index.result _ _
     (λ r h t. record {
       own = own;
       read = c.in_ok-own.ensures.read t;
       locked = c.in_ok-own.ensures.locked t;
       followed = followed;
-      follows = follows;
-      bounded = bounded_before args current old mid followed r c.in_ok-own.ensures.store
-          (λ u. index_stays args current old.file_at own followed follows (c.in_ok-own.ensures.read u).indexed)
-          follows.bound h t;
-    }) c.with_bound.ensures.bounded
+      follows = c.in_ok-readings.ensures.follows;
+      over = over_before args current old mid followed r c.in_ok-own.ensures.store h t;
+    }) c.over_index.ensures.index
 
 pub returns-clause-planned : goal.returns-clause-planned
 returns-clause-planned g c =
-    c.with_bound.ensures.planned (c.in_ok-readings.ensures.planned c.in_ok-own.ensures.planned)
+    c.over_index.ensures.planned (c.in_ok-readings.ensures.planned c.in_ok-own.ensures.planned)
 
 pub returns-clause-error : goal.returns-clause-error
 returns-clause-error g c =
@@ -91,17 +90,15 @@ returns-clause-error g c =
     let home = given c.args.cargo_home in
     let old = g.S.Store.view c.args.files.now in
     let mid = g.S.Store.view c.read_files.new.files in
-    let new = g.S.Store.view c.with_bound.new.files in
-    let s = c.in_ok-own.own.sources in
-    let read : old.tells ≡ true → IsRead args current home old.file_at s = c.in_ok-own.ensures.read in
-    IfErr-weaker c.with_bound.result _ _
-    (λ r h. inl (inl (index_refused args current home old mid new s r.error c.in_ok-own.ensures.store read h)))
-    c.with_bound.ensures.error
+    let new = g.S.Store.view c.over_index.new.files in
+    IfErr-weaker c.over_index.result _ _
+    (λ r h. index_refused args current home old mid new r.error c.in_ok-own.ensures.store h)
+    c.over_index.ensures.error
 
 pub returns-clause-counted : goal.returns-clause-counted
 returns-clause-counted g c =
     let old = g.S.Store.view c.args.files.now in
     let mid = g.S.Store.view c.read_files.new.files in
-    let new = g.S.Store.view c.with_bound.new.files in
-    IfErr-weaker c.with_bound.result _ _
-    (λ r h. fault_before old mid new r.error c.in_ok-own.ensures.store.later h) c.with_bound.ensures.counted
+    let new = g.S.Store.view c.over_index.new.files in
+    IfErr-weaker c.over_index.result _ _
+    (λ r h. fault_before old mid new r.error c.in_ok-own.ensures.store.later h) c.over_index.ensures.counted

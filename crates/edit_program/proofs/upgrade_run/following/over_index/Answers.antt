@@ -1,20 +1,14 @@
-use Rattle.std.proofs.Common.{◌≡◌, ◌∙◌, ap, sym, true}
+use Rattle.std.proofs.Common.{◌≡◌, ap, true}
 use Rattle.std.specs.Prelude.{◌⊎◌}
 use Rattle.edit_base.specs.declared.errors.DeviceCall.TheVariants as call
 use Rattle.edit_sources.specs.Configured.{given}
 use Rattle.edit_steps.proofs.ErrorFields.{failure_has}
 use Rattle.edit_steps.specs.Causes.{HasNoIndex}
 use Rattle.edit_steps.specs.Faults.{CountsFault}
-use Rattle.edit_store.specs.Store.{IsCallError}
 use Rattle.edit_steps.specs.declared.upgrade_read.sources.Sources.{Sources}
-use Rattle.edit_program.proofs.PolicyLemmas.{bounded_already, planned_over}
-use Rattle.edit_program.proofs.upgrade_run.following.with_bound.Goals as goal
-
-pub returns-then-not-is_bound_by_policy-clause-bounded : goal.returns-then-not-is_bound_by_policy-clause-bounded
-returns-then-not-is_bound_by_policy-clause-bounded g c =
-    let old = g.S.Store.view c.args.files.now in
-    λ t read bound. bounded_already c.args.args.now c.args.current.now old.file_at c.args.readings
-    (sym c.is_bound_by_policy.ensures ∙ c.if-not-is_bound_by_policy.true) read bound
+use Rattle.edit_store.specs.Store.{IsCallError}
+use Rattle.edit_program.proofs.PolicyLemmas.{planned_over}
+use Rattle.edit_program.proofs.upgrade_run.following.over_index.Goals as goal
 
 pub returns-in_err-sources-clause-error : goal.returns-in_err-sources-clause-error
 returns-in_err-sources-clause-error g c =
@@ -33,9 +27,9 @@ returns-in_err-sources-clause-counted g c =
     failure_has c.from_residual.result c.in_err-sources.field-0.0 (λ error. CountsFault old new error)
     c.from_residual.ensures.1 c.in_err-sources.ensures.counted
 
-pub returns-clause-bounded : goal.returns-clause-bounded
-returns-clause-bounded g c =
-    λ t read bound. record {
+pub returns-clause-index : goal.returns-clause-index
+returns-clause-index g c =
+    λ t. record {
       same = ap (λ (s : Sources). record c.args.readings { sources = s }) c.in_ok-sources.ensures.same;
       index = c.in_ok-sources.ensures.index t;
     }
