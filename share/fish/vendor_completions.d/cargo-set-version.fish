@@ -12,6 +12,7 @@ complete -c cargo-set-version -s n -l dry-run -d 'Print changes to be made witho
 complete -c cargo-set-version -l check -d 'Like `--dry-run`, with status 1 where something would change'
 complete -c cargo-set-version -l message-format -a 'human json' -d 'How the report is printed [default: human]'
 complete -c cargo-set-version -l diff -d 'Prints the changes of manifests as diffs'
+complete -c cargo-set-version -l color -a 'auto always never' -d 'When reports are colored'
 complete -c cargo-set-version -l offline -d 'Has cargo fetch nothing'
 complete -c cargo-set-version -l locked -d 'Stops with an error where Cargo.lock is not up to date, and leaves it as it is'
 complete -c cargo-set-version -s v -l verbose -d 'Accepted, and changes nothing'

@@ -20,7 +20,7 @@ use edit_steps::{RunResult, absolute_path, at_file, at_path};
 use edit_store::Store;
 use std::alloc::Global;
 
-/// The files that an upgrade depends on, and the lock file that its calls must be valid for.
+/// The files that an upgrade depends on, without an index, and the lock file that its calls must be valid for.
 pub(crate) struct ReadFiles {
     pub(crate) sources: Sources,
     pub(crate) lock: Option<Lock>,
