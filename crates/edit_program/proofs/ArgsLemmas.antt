@@ -110,6 +110,11 @@ pub err_same : {T E : Type 0} (r : Result T E) (e : E) (P : E → Type 0)
 err_same (Ok x) e P same h = tt
 err_same (Err other) e P same h = subst P (sym same) h
 
+-- a fact that each error has
+pub err_always : {T E : Type 0} (r : Result T E) {P : Type 0} → P → IfErr r (λ _. P)
+err_always (Ok x) h = tt
+err_always (Err e) h = h
+
 -- ---- when reports are colored
 
 -- the value of `--color`, where it is given

@@ -11,11 +11,11 @@ use Rattle.std.proofs.lemmas.Str.{IsUtf8-from_is_utf8, is_utf8-from_IsUtf8}
 use Rattle.edit_base.specs.Errors.{IsMemory}
 use Rattle.edit_base.specs.declared.errors.Error.{Error}
 use Rattle.edit_syntax.specs.FormOf.{form_of}
-use Rattle.edit_syntax.specs.Grammar.{Text, text}
+use Rattle.edit_syntax.specs.Grammar.{Text}
 use Rattle.edit_syntax.proofs.Members.{Among, contained_among}
 use Rattle.edit_tree.specs.Assertions.{Assertion, AreCompatible, AreShort, IsDocument, Place, are_compatible, assertions, same_place}
 use Rattle.edit_tree.specs.Tree.{is_value_at}
-use Rattle.edit_tree.specs.Written.{IsWrittenAt, PlacedValue, start_of, values}
+use Rattle.edit_tree.specs.Written.{PlacedValue, start_of, values}
 use Rattle.edit_tree.proofs.SamePlace.{same_place_is, same_place_self}
 use Rattle.edit_tree.proofs.Shallow.{manifest_form}
 use Rattle.edit_tree.proofs.UniqueValues.{listed_value, values_unique}
@@ -142,24 +142,25 @@ no_form_of bytes e (inr (inr memory)) other = absurd (other memory.0)
 found_among : {A : Type 0} (p : A → Bool) (xs : List A) (y : A) → find p xs ≡ Some y
     → Among y xs × (p y ≡ true)
 found_among p [] y e = absurd (let clash : None ≡ Some y = e in cc)
-found_among p (x ∷ xs) y e = go (p x) refl e
+found_among p (x ∷ xs) y e = go (p x) refl e (found_among p xs y)
   where
     go : (b : Bool) → p x ≡ b → (if b then Some x else find p xs) ≡ Some y
-        → Among y (x ∷ xs) × (p y ≡ true)
-    go true passes is = let same : x ≡ y = cc in (inl (sym same), subst (λ z. p z ≡ true) same passes)
-    go false fails is = let rest = found_among p xs y is in (inr rest.0, rest.1)
+        → (find p xs ≡ Some y → Among y xs × (p y ≡ true)) → Among y (x ∷ xs) × (p y ≡ true)
+    go true passes is later = let same : x ≡ y = cc in (inl (sym same), subst (λ z. p z ≡ true) same passes)
+    go false fails is later = let rest = later is in (inr rest.0, rest.1)
 
 -- an element that passes is found, or one before it
 finds_among : {A : Type 0} (p : A → Bool) (xs : List A) (x : A) → Among x xs → p x ≡ true
     → find p xs ≡ None → ⊥
 finds_among p [] x m passes e = m
-finds_among p (y ∷ ys) x m passes e = go (p y) refl e
+finds_among p (y ∷ ys) x m passes e = go (p y) refl e (λ more. finds_among p ys x more passes)
   where
-    go : (b : Bool) → p y ≡ b → (if b then Some y else find p ys) ≡ None → ⊥
-    go true other is = let clash : Some y ≡ None = is in cc
-    go false other is = ⊎_elim
+    go : (b : Bool) → p y ≡ b → (if b then Some y else find p ys) ≡ None
+        → (Among x ys → find p ys ≡ None → ⊥) → ⊥
+    go true other is later = let clash : Some y ≡ None = is in cc
+    go false other is later = ⊎_elim
         (λ same. let clash : true ≡ false = sym passes ∙ ap p same ∙ other in cc)
-        (λ more. finds_among p ys x more passes is) m
+        (λ more. later more is) m
 
 -- the value at a place, as a search finds it
 abbrev found_at : Text → Place → Option PlacedValue

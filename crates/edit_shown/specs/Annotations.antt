@@ -1,6 +1,6 @@
 -- Annotations of GitHub Actions, one for each requirement of an upgrade that changes or that an option could
 -- raise (GitHub Docs, "Workflow commands for GitHub Actions", "Setting a notice message").
-use Rattle.std.specs.Prelude.{ℕ, List, [], ◌∷◌, ◌++◌, Bool, ◌||◌, ◌==◌, Option, Some, None, codes, decimal, drop, encode_utf8, if◌then◌else◌, is_some, length, nat_eq, slice_get, string_bytes}
+use Rattle.std.specs.Prelude.{ℕ, List, [], ◌++◌, Bool, ◌||◌, ◌==◌, Option, Some, None, codes, decimal, drop, encode_utf8, if◌then◌else◌, is_some, length, nat_eq, slice_get, string_bytes}
 use Rattle.std.specs.List.{flat_map, starts_with}
 use Rattle.std.specs.Option.{option_map_or}
 use Rattle.std.specs.Str.{chars}

@@ -1,12 +1,12 @@
 -- The lines on which requirements begin in the text of a manifest (own).
 use Rattle.std.specs.Prelude.{ℕ, ◌+◌, List, [], ◌∷◌, Bool, true, not, ◌&&◌, ◌||◌, ◌==◌, Option, Some, None, codes, count_by, if◌then◌else◌, length, nat_le, option_and_then, option_map, take}
-use Rattle.core.specs.Option.{option_or}
+use Rattle.std.specs.Option.{option_or}
 use Rattle.std.specs.List.{find, list_all}
 use Rattle.std.specs.Str.{is_utf8}
 use Rattle.edit_syntax.specs.FormOf.{form_of}
 use Rattle.edit_syntax.specs.Grammar.{Text}
 use Rattle.edit_tree.specs.Assertions.{Assertion, Place, are_compatible, assertions, at, key, same_place}
-use Rattle.edit_tree.specs.Written.{PlacedValue, start_of, values}
+use Rattle.edit_tree.specs.Written.{start_of, values}
 
 -- ---- documents
 

@@ -30,7 +30,8 @@ starts_inside (b ∷ text) starts = omega arith
 -- a status line has its twelve columns
 pub status_long : (line : List ℕ) → is_status line ≡ true → 12 ≤ length line
 status_long line status =
-    let parts = and_parts (is_word (without_spaces (take 12 line))) (starts_with nat_eq (drop 12 line) (codes " ")) status in
+    let parts = and_parts (is_word (without_spaces (take 12 line)))
+    (starts_with nat_eq (drop 12 line) (codes " ")) status in
     let inside = starts_inside (drop 12 line) parts.1 in
     let left = length-drop 12 line in
     omega arith

@@ -40,7 +40,8 @@ no_part text from end behind =
 pub part_of_front : (text : List ℕ) (from end : ℕ) → end ≤ length text
     → take (end - min from end) (drop (min from end) text) ≡ drop from (take end text)
 part_of_front text from end within =
-    ⊎_elim (λ before. front_part text from end before) (λ behind. no_part text from end behind) (cases_lt from end)
+    ⊎_elim (λ before. front_part text from end before) (λ behind. no_part text from end behind)
+    (cases_lt from end)
 
 -- the same, where the second is that of the next column, or the text's end before it
 pub cell_part : (text : List ℕ) (a b from next end start : ℕ) → from ≡ a → next ≡ b

@@ -53,3 +53,8 @@ written_at wanted h b = if b == 10 then line_text wanted h.starts h.line ++ code
 abbrev pub report_text : Bool → Held → List ℕ → List ℕ
 report_text wanted h [] = []
 report_text wanted h (b ∷ bytes) = written_at wanted h b ++ report_text wanted (next h b) bytes
+
+-- what is written of a line that has not ended
+abbrev pub rest_text : Bool → List ℕ → List ℕ → List ℕ
+rest_text wanted starts [] = []
+rest_text wanted starts (b ∷ line) = line_text wanted starts (b ∷ line)

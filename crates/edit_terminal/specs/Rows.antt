@@ -30,8 +30,8 @@ is_same_cell a b =
     let n = min (length a) (length b) in
     bytes_eq (take n a) (take n b) && (is_blank (drop n a) && is_blank (drop n b))
 
--- the style of a cell: that of a change for a new requirement, in the column at index 4, that differs from the
--- old one, at index 1
+-- the style of a cell: that of a change for a new requirement, in the column at index 4, that differs from
+-- the old one, at index 1
 abbrev pub cell_style : List ℕ → List ℕ → ℕ → Style
 cell_style starts line i =
     if (i == 4) && not (is_same_cell (cell starts line 1) (cell starts line 4)) then Change else Plain

@@ -11,10 +11,10 @@ use std::alloc::{AllocError, Global};
 use std::io::ErrorKind;
 use std::{io, str};
 
-/// A writer of reports to a terminal: it shows each character as `write_for_terminal` does, aligns the columns
-/// of tables as the terminal shows them, and, where that is wanted, writes titles, the beginnings of messages
-/// and changed requirements in styles. It takes lines of UTF-8, in pieces of any length; a line that is no
-/// UTF-8 is an error. A line is written once it has ended, or at a flush.
+/// A writer of reports to a terminal: it shows each character as `write_for_terminal` does, aligns the
+/// columns of tables as the terminal shows them, and, where that is wanted, writes titles, the beginnings of
+/// messages and changed requirements in styles. It takes lines of UTF-8, in pieces of any length; a line that
+/// is no UTF-8 is an error. A line is written once it has ended, or at a flush.
 #[derive(Drop)]
 pub struct ReportWriter<W: io::Write + Drop> {
     to: W,
@@ -122,6 +122,21 @@ impl<W: io::Write + Drop> ReportWriter<W> {
         Ok(())
     }
 
+    /// Writes the line that has not ended, where one has begun.
+    fn write_rest(&mut self) -> io::Result<()>
+        ensures line { OnOk result (self.new.line.items ≡ []) }
+        ensures starts { self.new.starts.items ≡ self.old.starts.items }
+        ensures wanted { self.new.wanted ≡ self.old.wanted }
+        ensures shows { OnOk result (Appends (W.contents self.old.to) (W.contents self.new.to)
+            (spec.rest_text self.old.wanted self.old.starts.items self.old.line.items)) }
+    {
+        if !self.line.is_empty() {
+            write_line(&mut self.to, self.wanted, &self.starts, &self.line)?;
+            self.line.clear();
+        }
+        Ok(())
+    }
+
     /// Takes a byte of a report: holds it, or writes the line that it ends.
     fn push_byte(&mut self, byte: u8) -> io::Result<()>
         ensures held { OnOk result (spec.held self.new.line.items self.new.starts.items
@@ -145,7 +160,8 @@ impl<W: io::Write + Drop> io::Write for ReportWriter<W> {
         ensures held { OnOk result (spec.held self.new.line.items self.new.starts.items
             ≡ spec.held_after (spec.held self.old.line.items self.old.starts.items) buf.now) }
         ensures shows { OnOk result (Appends (W.contents self.old.to) (W.contents self.new.to)
-            (spec.report_text self.old.wanted (spec.held self.old.line.items self.old.starts.items) buf.now)) }
+            (spec.report_text self.old.wanted (spec.held self.old.line.items self.old.starts.items)
+            buf.now)) }
     {
         for byte in buf {
             self.push_byte(*byte)?;
@@ -153,11 +169,13 @@ impl<W: io::Write + Drop> io::Write for ReportWriter<W> {
         Ok(buf.len())
     }
 
-    fn flush(&mut self) -> io::Result<()> {
-        if !self.line.is_empty() {
-            write_line(&mut self.to, self.wanted, &self.starts, &self.line)?;
-            self.line.clear();
-        }
+    fn flush(&mut self) -> io::Result<()>
+        ensures line { OnOk result (self.new.line.items ≡ []) }
+        ensures starts { self.new.starts.items ≡ self.old.starts.items }
+        ensures shows { OnOk result (Appends (W.contents self.old.to) (W.contents self.new.to)
+            (spec.rest_text self.old.wanted self.old.starts.items self.old.line.items)) }
+    {
+        self.write_rest()?;
         self.to.flush()
     }
 }

@@ -1,11 +1,12 @@
 use Rattle.std.proofs.Common.{◌∙◌, [], ap₂, codes, refl, sym}
 use Rattle.std.proofs.lemmas.Result.{IfErr-weaker, IfOk-weaker}
 use Rattle.edit_program.specs.Presented.{format_of_options}
-use Rattle.edit_program.proofs.ArgsLemmas.{none_unless, same_if, value_is}
+use Rattle.edit_program.proofs.ArgsLemmas.{err_always, none_unless, same_if, value_is}
 use Rattle.edit_program.proofs.output_format.presentation.Goals as goal
 
 pub returns-in_err-check_color_option-clause-error : goal.returns-in_err-check_color_option-clause-error
-returns-in_err-check_color_option-clause-error c = none_unless _ _ c.in_err-check_color_option.ensures.error
+returns-in_err-check_color_option-clause-error c =
+    err_always c.from_residual.result (none_unless _ _ c.in_err-check_color_option.ensures.error)
 
 pub returns-clause-ok : goal.returns-clause-ok
 returns-clause-ok c =

@@ -10,5 +10,6 @@ pub returns-then-not-is_empty : goal.returns-then-not-is_empty
 returns-then-not-is_empty c =
     both_true _ _ c.all.result (search (rules, tests))
     (all_from_yields_List (λ i. is_utf8 (spec.cell c.args.starts.now c.args.line.now i)) _ _ c.all.result
-    c.all.ensures.ran (YieldsList-from_range 0 (length c.args.starts.now) (length c.args.starts.now) (cc) (omega arith))
+    c.all.ensures.ran
+    (YieldsList-from_range 0 (length c.args.starts.now) (length c.args.starts.now) (cc) (omega arith))
     (λ x b q k. search (rules, tests)))

@@ -8,7 +8,8 @@ use Rattle.edit_terminal.proofs.rows.push_column_starts.Goals.{then-is_start+in_
 pub loop-at-preserved : goal.loop-at-preserved
 loop-at-preserved c =
     elim c.if-is_start.branch [
-      | then-is_start+in_ok-push w ↦ rw w.starts-is (starts_more (spec.is_start c.args.line.now) _ _ _ c.loop-at.at true
+      | then-is_start+in_ok-push w ↦ rw w.starts-is
+          (starts_more (spec.is_start c.args.line.now) _ _ _ c.loop-at.at true
           (sym w.if-is_start.true ∙ c.is_start.ensures) c.loop-at.invariant w.in_ok-push.ensures.items)
       | else-is_start w ↦ rw w.starts-is (starts_more (spec.is_start c.args.line.now) _ _ _ c.loop-at.at false
           (sym w.if-is_start.false ∙ c.is_start.ensures) c.loop-at.invariant (sym (append-nil _)))

@@ -1,4 +1,4 @@
-use Rattle.std.proofs.Common.{◌≡◌, ◌+◌, arith}
+use Rattle.std.proofs.Common.{arith}
 use Rattle.edit_shown.proofs.RequirementLineLemmas.{front_is, line_after, line_fits}
 use Rattle.edit_shown.proofs.annotations.lines.line_from.Goals as goal
 

@@ -9,5 +9,5 @@ returns-clause-ok c =
     let form = c.lemma_form.ensures.some.0 in
     let document = c.lemma_form.ensures.some.1 in
     line_is c.args.document.now.bytes form (place_view c.args.entry.now) c.in_ok-start.start
-    (subst IsUtf8 c.as_str-_text.ensures c.as_str-_text.utf8) document
+    (subst IsUtf8 c.as_str-text.ensures c.as_str-text.utf8) document
     (c.in_ok-start.ensures.ok form document)

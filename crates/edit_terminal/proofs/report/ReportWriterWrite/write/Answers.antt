@@ -19,7 +19,8 @@ loop-byte-preserved g c =
       held = c.in_ok-push_byte.ensures.held ∙ ap (λ h. spec.next h byte) so_far.held
           ∙ sym (held_more first bytes i c.loop-byte-test.true);
       wanted = c.push_byte.ensures.wanted ∙ so_far.wanted;
-      shows = subst (Appends before after) (sym (front_more c.args.self.now.wanted first bytes i c.loop-byte-test.true))
+      shows = subst (Appends before after)
+          (sym (front_more c.args.self.now.wanted first bytes i c.loop-byte-test.true))
           (Appends-trans before now after _ _ so_far.shows (subst (Appends now after)
           (ap₂ (λ w h. spec.written_at w h byte) so_far.wanted so_far.held) c.in_ok-push_byte.ensures.shows));
     }
