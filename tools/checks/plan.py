@@ -17,7 +17,7 @@ COMMANDS = {"upgrade", "set-version"}
 # options with a value, with an optional value, and without one
 VALUED = {"package", "exclude", "rust-version", "level", "rows", "published-before", "min-age", "now", "bump", "metadata"}
 OPTIONAL = {"compatible", "incompatible", "pinned", "recursive"}
-FLAGS = {"never-lower", "to-lockfile", "unify", "locked", "offline", "workspace", "all", "ignore-rust-version"}
+FLAGS = {"never-lower", "to-lockfile", "unify", "no-policy", "locked", "offline", "workspace", "all", "ignore-rust-version"}
 SHORT = {"-p": "--package", "-i": "--incompatible", "-m": "--metadata"}
 # the options that name the texts of a request
 FILES = {"metadata-json": "metadata", "index-file": "index", "lock-file": "lock"}

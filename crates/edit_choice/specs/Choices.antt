@@ -1,5 +1,5 @@
 -- A choice among rows, by their numbers and the names of their crates.
-use Rattle.std.specs.Prelude.{◌&&◌, ℕ, List, Bool, false, nat_le, true}
+use Rattle.std.specs.Prelude.{◌≡◌, ◌&&◌, ℕ, List, Bool, false, nat_le, true, ⊤}
 use Rattle.std.specs.List.{list_any}
 use Rattle.std.specs.Str.{bytes_eq}
 use Rattle.edit_choice.specs.declared.items.RowChoice.{RowChoice}
@@ -11,6 +11,12 @@ use Rattle.edit_choice.specs.declared.items.RowItem.TheVariants as item
 abbrev pub is_chosen_by : RowItem → ℕ → List ℕ → Bool
 is_chosen_by (item.Numbers first last) number name = nat_le first number && nat_le number last
 is_chosen_by (item.Name chosen) number name = bytes_eq chosen.now name
+
+-- the choices are both of all rows, or by the same items
+abbrev pub IsSameChoice : RowChoice → RowChoice → Type 0
+IsSameChoice choice.All choice.All = ⊤
+IsSameChoice (choice.Items items) (choice.Items others) = others.items ≡ items.items
+IsSameChoice _ _ = ⊥
 
 -- what a choice chooses
 abbrev pub is_chosen : RowChoice → ℕ → List ℕ → Bool

@@ -1,6 +1,8 @@
 //! What chooses rows: numbers, ranges and names.
-ghost use Rattle.std.specs.Prelude.{◌≡◌};
-ghost use Rattle.edit_choice.specs.Choices.{is_chosen_by};
+ghost use Rattle.std.specs.Prelude.{◌≡◌, IfOk};
+ghost use Rattle.edit_choice.specs.Choices.{IsSameChoice, is_chosen_by};
+
+use std::alloc::{AllocError, Global};
 
 /// A part of a choice: the rows of a range of numbers, or those of a crate.
 #[derive(Clone, Copy, Debug)]
@@ -16,6 +18,21 @@ pub enum RowChoice<'a> {
     All,
     /// The rows that one of these chooses; none where there are none.
     Items(Vec<RowItem<'a>>),
+}
+
+impl<'a> RowChoice<'a> {
+    /// A copy of a choice.
+    pub fn try_clone(&self, alloc: Global) -> Result<RowChoice<'a>, AllocError>
+        ensures { IfOk result (IsSameChoice self.now) }
+    {
+        let items = match self {
+            RowChoice::All => return Ok(RowChoice::All),
+            RowChoice::Items(items) => items.as_slice(),
+        };
+        let mut copies = Vec::new(alloc);
+        copies.extend_from_slice(items)?;
+        Ok(RowChoice::Items(copies))
+    }
 }
 
 /// Whether an item chooses the row with this number and name.

@@ -24,3 +24,4 @@ pub mod DryRuns
 mod NameLemmas
 mod NoteLemmas
 mod PartLemmas
+mod PolicyLemmas

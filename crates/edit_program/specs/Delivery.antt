@@ -7,6 +7,7 @@ use Rattle.edit_lock.specs.AdaptedCalls.{changes, adapt_calls}
 use Rattle.edit_lock.specs.Views.{lock_view}
 use Rattle.edit_metadata.specs.Metadata.{WorkspaceModel}
 use Rattle.edit_metadata.specs.declared.input.Input.{Input}
+use Rattle.edit_policy.specs.declared.policy.CratePolicy.{CratePolicy}
 use Rattle.edit_shown.specs.declared.presentation.Presentation.{Presentation}
 use Rattle.edit_upgrade.specs.ParsedOptions.{call_options}
 use Rattle.edit_upgrade.specs.UpdateCalls.{Call, update_calls}
@@ -24,8 +25,9 @@ abbrev pub calls_against : Option (List Package) → Bool → List Call → List
 calls_against None offline calls = calls
 calls_against (Some packages) offline calls = adapt_calls (changes packages packages) offline calls
 
--- a plan for inputs, the crates that it leaves in more than one compatible range, its options, the folder and the format that it is printed in, the calls that
--- follow, and the path of the file for them
+-- a plan for inputs, the crates that it leaves in more than one compatible range, its options, the folder and
+-- the format that it is printed in, the calls that follow, the path of the file for them, and what the policy
+-- says of crates
 pub record Delivery : Type 0 where
   pub plan : UpgradePlan
   pub apart : List (List ℕ)
@@ -36,6 +38,7 @@ pub record Delivery : Type 0 where
   pub calls : List Call
   pub calls_path : Option (List ℕ)
   pub offline : Bool
+  pub crates : List CratePolicy
 
 -- the plan of a task, and how it is printed and written
 abbrev pub delivery_of : DeliveryTask → Delivery
@@ -50,4 +53,5 @@ delivery_of task = record {
       (calls_of task.plan.now task.options.now (option_map (λ w. workspace_view w.now) task.workspace));
   calls_path = option_map (λ path. path.now) task.update_calls;
   offline = task.offline;
+  crates = task.crates.now;
 }

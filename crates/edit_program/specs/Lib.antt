@@ -4,7 +4,9 @@ pub mod HeldBackNotes
 pub mod ParsedBound
 pub mod ParsedOptions
 pub mod Commands
+pub mod Followed
 pub mod Merged
+pub mod Merging
 pub mod Presented
 pub mod Run
 pub mod Runs
@@ -18,6 +20,7 @@ pub mod NoIndex
 pub mod UpgradeCauses
 pub mod PrintedLookups
 pub mod Planned
+pub mod Reading
 pub mod Upgrading
 pub mod SetVersionCauses
 pub mod Plans

@@ -9,6 +9,7 @@ use Rattle.std.specs.Option.{option_map_or}
 use Rattle.std.specs.Ordering.{nat_cmp}
 use Rattle.std.specs.Str.{bytes_eq}
 use Rattle.edit_metadata.specs.declared.input.Input.{Input}
+use Rattle.edit_report.specs.HoldNotes.{hold_notes}
 use Rattle.edit_report.specs.Messages.{message_text}
 use Rattle.edit_report.specs.ShownRows.{is_shown}
 use Rattle.edit_report.specs.Table.{name_text, reason_text}
@@ -153,8 +154,10 @@ notes plan apart options offline =
     ++ (absent_note plan options offline
     ++ held_back_notes plan options)))))
 
--- all that standard error has of a plan: the report on each input, the calls, the notes
+-- all that standard error has of a plan: the report on each input, the calls, the notes on the crates that the
+-- policy holds, and the other notes
 abbrev pub upgrade_stderr_text : Delivery → List ℕ
 upgrade_stderr_text d =
     input_reports d.options.verbosity d.plan.warnings.items d.inputs (length d.inputs)
-    ++ (call_statuses d.calls ++ notes d.plan d.apart d.options d.offline)
+    ++ (call_statuses d.calls
+    ++ (hold_notes d.plan.rows.items d.crates ++ notes d.plan d.apart d.options d.offline))

@@ -3,18 +3,19 @@ ghost use Rattle.std.specs.Prelude.{◌≡◌, ◌≢◌, IfErr, IfOk, None, Som
 ghost use Rattle.std.specs.Str.{bytes_eq};
 ghost use Rattle.clap.specs.Words.{first_of, found_of, rows_of};
 ghost use Rattle.edit_program.specs.declared.args_error.ArgsError.TheVariants as parse_error;
-ghost use Rattle.edit_program.specs.ParsedOptions.{HasOptions, HasBadStatus, is_given, status_of, status_of_value, verbosity_of};
+ghost use Rattle.edit_program.specs.ParsedOptions.{HasBadStatus, HasGivenChoices, HasOptions, is_given, status_of, status_of_value, verbosity_of};
 ghost use Rattle.edit_program.specs.ParsedRows.{HasNoRowChoice, HasRowChoice, HasRowFault, IsRowChoice};
 ghost use Rattle.edit_program.specs.ParsedUpgrade.{HasUpgradeArgs, HasNoRust, HaveUpgradeFault, IsRust, has_lockfile_fault, has_two_indexes, level_in, level_of, level_of_value};
 
 use crate::args_error::{ArgsError, ArgsFault};
-use crate::lookups::{has_value, is_either_given, is_given, values_of};
+use crate::lookups::{has_value, is_either_given, is_explicit, is_given, values_of};
 use crate::output_format::{PlanCommand, is_dry, presentation};
 use crate::publication_bound::publication_bound;
 use crate::upgrade_run::UpgradeArgs;
 use clap::ArgMatches;
 use edit_base::Error;
 use edit_choice::RowChoice;
+use edit_policy::GivenChoices;
 use edit_steps::upgrade_read::RustChoice;
 use edit_upgrade::Options;
 use edit_version::{Level, RustVersion};
@@ -166,6 +167,18 @@ fn options_of<'a>(
     })
 }
 
+/// Which of the choices of an upgrade arguments give. `--to-lockfile` gives that on incompatible upgrades: they
+/// are excluded then.
+fn given_choices(matches: &ArgMatches<'_>) -> GivenChoices
+    ensures { HasGivenChoices (rows_of (found_of matches.now)) result }
+{
+    GivenChoices {
+        compatible: is_explicit(matches, "compatible"),
+        incompatible: is_explicit(matches, "incompatible") || is_given(matches, "to-lockfile"),
+        pinned: is_explicit(matches, "pinned"),
+    }
+}
+
 /// Whether both an index file and an index folder are given.
 fn has_two_indexes(matches: &ArgMatches<'_>) -> bool
     ensures { result ≡ has_two_indexes (rows_of (found_of matches.now)) }
@@ -263,12 +276,15 @@ pub(crate) fn parse_upgrade_args<'a>(
         default_config: matches.get_str("default-config"),
         rust,
         options,
+        given: given_choices(matches),
+        no_policy: is_given(matches, "no-policy"),
         presentation,
         update_calls: matches.get_str("update-calls"),
         lock_file: matches.get_str("lock-file"),
         offline: is_given(matches, "offline"),
         to_lockfile,
         published_before,
+        time: matches.get_str("now"),
         unify: is_given(matches, "unify"),
         rows,
     })

@@ -2,8 +2,11 @@
 
 mod choosing;
 mod delivering;
+mod following;
 mod lookup_printing;
+mod merging;
 mod plan;
+mod policy_age;
 mod reading;
 mod revising;
 mod unifying;

@@ -43,6 +43,7 @@ switches =
     ∷ flag_rule (codes "to-lockfile")
     ∷ flag_rule (codes "unify")
     ∷ flag_rule (codes "interactive")
+    ∷ flag_rule (codes "no-policy")
     ∷ []
 
 -- the options that say by when versions have to be published

@@ -67,7 +67,7 @@ fn configurations<'a>() -> [ArgSpec<'a>; 2]
 }
 
 /// What says which versions of Rust count, and the flags.
-fn switches<'a>() -> [ArgSpec<'a>; 11]
+fn switches<'a>() -> [ArgSpec<'a>; 12]
     ensures { map arg_rule result ≡ rust_choices ++ switches }
 {
     [
@@ -110,6 +110,11 @@ fn switches<'a>() -> [ArgSpec<'a>; 11]
             "interactive",
             Form::Flag,
             "Lists what would change as numbered rows, and changes nothing",
+        ),
+        plain(
+            "no-policy",
+            Form::Flag,
+            "Ignores the policy of the root manifest",
         ),
     ]
 }

@@ -2,6 +2,7 @@
 
 use edit_lock::Lock;
 use edit_metadata::{Input, Workspace};
+use edit_policy::CratePolicy;
 use edit_shown::Presentation;
 use edit_upgrade::{Options, UpgradePlan};
 
@@ -26,4 +27,6 @@ pub struct DeliveryTask<'a> {
     pub lock: Option<&'a Lock>,
     /// Whether calls that are valid for a lock file must not fetch anything.
     pub offline: bool,
+    /// What the policy says of crates.
+    pub crates: &'a [CratePolicy],
 }

@@ -13,6 +13,7 @@ use crate::upgrade_run::upgrade_args::UpgradeArgs;
 use edit_base::CargoResult;
 use edit_lock::Lock;
 use edit_metadata::Workspace;
+use edit_policy::CratePolicy;
 use edit_steps::absolute_path;
 use edit_steps::upgrade_read::Target;
 use edit_upgrade::UpgradePlan;
@@ -61,18 +62,19 @@ fn called_workspace(keeps_lock: bool, workspace: Option<&Workspace>) -> Option<&
     if keeps_lock { None } else { workspace }
 }
 
-/// How the plan for these manifests is printed and written, from the arguments. `update_calls` is the path
-/// of the file for the calls, which are adapted to the lock file where there is one.
+/// How the plan for these manifests is printed and written, from the arguments and from what the policy says of
+/// crates. `path` is that of the file for the calls, which are adapted to the lock file where there is one.
 pub(crate) fn delivery_task<'a>(
     args: &'a UpgradeArgs<'_>,
     current: &'a str,
     target: &'a Target,
     revised: &'a RevisedPlan,
+    crates: &'a [CratePolicy],
     path: Option<&'a str>,
     lock: Option<&'a Lock>,
 ) -> DeliveryTask<'a>
     ensures { delivery_of result ≡ delivery_by args.entry.now current.now revised.entry.now.plan
-        (map string_bytes revised.entry.now.apart.items) target.entry.now (given path.entry)
+        (map string_bytes revised.entry.now.apart.items) target.entry.now crates.entry.now (given path.entry)
         (option_map (λ l. lock_view l.now) lock.entry) }
 {
     let workspace = target.workspace.as_ref();
@@ -87,6 +89,7 @@ pub(crate) fn delivery_task<'a>(
         update_calls: path,
         lock,
         offline: args.offline,
+        crates,
     }
 }
 

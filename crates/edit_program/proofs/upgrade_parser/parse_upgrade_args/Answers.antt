@@ -63,6 +63,8 @@ returns-clause-asks c =
       options = c.in_ok-options.ensures.options;
       level = c.in_ok-level.ensures.ok
           ∙ ap (λ (l : Option Level). Some l) (sym c.in_ok-options.ensures.level);
+      choices = c.given_choices.ensures;
+      no_policy = search rules;
       presentation = c.in_ok-presentation.ensures.ok;
       calls = option_text_is c.args.matches.now (codes "update-calls") c.get_str-8.result _ refl c.get_str-8.ensures;
       lock = option_text_is c.args.matches.now (codes "lock-file") c.get_str-9.result _ refl c.get_str-9.ensures;
@@ -70,4 +72,5 @@ returns-clause-asks c =
       to_lockfile = c.in_ok-to_lockfile.ensures.given;
       usable = c.in_ok-to_lockfile.ensures.usable;
       bound = c.in_ok-published_before.ensures.ok;
+      time = option_text_is c.args.matches.now (codes "now") c.get_str-10.result _ refl c.get_str-10.ensures;
     }

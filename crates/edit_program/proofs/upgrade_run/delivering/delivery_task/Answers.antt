@@ -7,6 +7,6 @@ use Rattle.edit_program.proofs.upgrade_run.delivering.delivery_task.Goals as goa
 pub returns : goal.returns
 returns c =
     same_delivery c.args.args.now c.args.current.now c.diff_root.result.now c.args.plan.now c.args.target.now
-    (given c.args.path) (option_map (λ l. lock_view l.now) c.args.lock) c.as_slice.result.now
+    c.args.crates.now (given c.args.path) (option_map (λ l. lock_view l.now) c.args.lock) c.as_slice.result.now
     c.as_ref-workspace.result _ c.diff_root.ensures c.as_slice.ensures.value c.as_ref-workspace.ensures.value
     c.called_workspace.ensures

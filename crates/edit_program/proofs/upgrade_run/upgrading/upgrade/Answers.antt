@@ -1,4 +1,4 @@
-use Rattle.std.proofs.Common.{◌≡◌, ◌∙◌, ap, inl, inr, option_map, subst, sym, true}
+use Rattle.std.proofs.Common.{◌≡◌, ◌∙◌, ap, inl, inr, subst, sym, true}
 use Rattle.std.specs.Prelude.{◌⊎◌}
 use Rattle.std.specs.Io.KnownBytes.{Appends}
 use Rattle.edit_base.specs.Errors.{number_of}
@@ -8,17 +8,16 @@ use Rattle.edit_report.specs.Applied.{HaveDistinctPaths}
 use Rattle.edit_store.specs.Store.{SameFiles}
 use Rattle.edit_program.specs.Delivered.{IsDeliveryInterrupted}
 use Rattle.edit_program.specs.Delivery.{Delivery}
+use Rattle.edit_program.specs.Followed.{IsReady}
 use Rattle.edit_program.specs.Run.{run_at}
 use Rattle.edit_program.specs.StderrText.{AreWarningsInOrder}
 use Rattle.edit_program.specs.Tables.{AreInOrder}
 use Rattle.edit_program.specs.DeliveryCauses.{IsDeliveryCause}
 use Rattle.edit_program.specs.UpgradeCauses.{IsUpgradeCause}
-use Rattle.edit_lock.specs.Views.{lock_view}
-use Rattle.edit_program.specs.LockRead.{IsLockRead}
-use Rattle.edit_program.specs.Upgrading.{IsPathOf, IsRead}
+use Rattle.edit_program.specs.Upgrading.{IsPathOf}
 use Rattle.edit_program.proofs.CountLemmas.{delivery_counts, fault_before}
 use Rattle.edit_program.proofs.OrderLemmas.{rows_in_order, warnings_in_order}
-use Rattle.edit_program.proofs.UpgradeLemmas.{answered, broken, plan_cause, planned_for, lock_cause, plan_paths, same_lock, stop_cause, unplanned_for, upgraded}
+use Rattle.edit_program.proofs.UpgradeLemmas.{answered, broken, delivery_is, plan_cause, plan_paths, planned_for, policy_cause, stop_cause, unplanned_for, upgrade_test_is, upgraded}
 use Rattle.edit_program.specs.Counted.{CountsEitherFault}
 use Rattle.edit_program.proofs.upgrade_run.upgrading.upgrade.Goals as goal
 
@@ -35,7 +34,7 @@ returns-in_err-readings-clause-why g c =
     failure_has c.from_residual-in_err-readings.result e
     (λ error. IsUpgradeCause (Appends out out) args (run_at current home local old mid) error)
     c.from_residual-in_err-readings.ensures.1
-    (lock_cause (Appends out out) args current home local old mid e.error c.read.ensures.store.files
+    (policy_cause (Appends out out) args current home local old mid e.error c.read.ensures.store.files
     c.in_err-readings.ensures.error)
 
 pub returns-in-Err-clause-why : goal.returns-in-Err-clause-why
@@ -46,20 +45,16 @@ returns-in-Err-clause-why g c =
     let local = g.T.Store.view c.args.index_files in
     let old = g.S.Store.view c.args.files.now in
     let mid = g.S.Store.view c.explain_upgrade.new.files in
-    let s = c.in_ok-readings.readings.sources in
-    let read : old.tells ≡ true → IsRead args current home old.file_at s =
-    c.in_ok-readings.ensures.read in
-    let lock = option_map (λ l. lock_view l.now) c.as_ref-lock.result in
-    let locked : old.tells ≡ true → IsLockRead args.to_lockfile old.file_at current (given args.lock_file) lock =
-    λ t. subst (IsLockRead args.to_lockfile old.file_at current (given args.lock_file))
-    (sym (same_lock c.as_ref-lock.result c.in_ok-readings.readings.lock c.as_ref-lock.ensures.value))
-    (c.in_ok-readings.ensures.locked t) in
+    let r = c.in_ok-readings.readings in
+    let ready : old.tells ≡ true → IsReady args current home old.file_at r = c.in_ok-readings.ensures.ready in
+    let test = upgrade_test_is r c.as_ref-lock.result c.as_slice-crates.result.now _
+    c.as_ref-lock.ensures.value c.as_slice-crates.ensures.value c.index_restriction-restriction.ensures in
     let out = g.O.Write.contents c.args.out.now in
     subst (λ e. IsUpgradeCause (Appends out out) args (run_at current home local old mid) e)
     (sym c.explain_upgrade.ensures.same)
-    (plan_cause (Appends out out) args current home local old mid s lock c.in-Err.error
-    (λ path. c.explain_upgrade.ensures.reads.files path ∙ c.in_ok-readings.ensures.store.files path) read locked
-    (unplanned_for args s local c.in-Err.error _ lock c.restriction-locked.ensures c.in-Err.ensures.error))
+    (plan_cause (Appends out out) args current home local old mid r c.in-Err.error
+    (λ path. c.explain_upgrade.ensures.reads.files path ∙ c.in_ok-readings.ensures.store.files path) ready
+    (unplanned_for r local c.in-Err.error _ test c.in-Err.ensures.error))
 
 pub returns-in-Err-clause-tells : goal.returns-in-Err-clause-tells
 returns-in-Err-clause-tells g c = c.explain_upgrade.ensures.reads.tells ∙ c.in_ok-readings.ensures.store.tells
@@ -70,13 +65,13 @@ returns-in-Err-clause-error g c =
 
 pub deliver-requires-clause-outputs : goal.deliver-requires-clause-outputs
 deliver-requires-clause-outputs g c =
-    let args = c.args.args.now in
-    let s = c.in_ok-readings.readings.sources in
+    let r = c.in_ok-readings.readings in
     let local = g.T.Store.view c.args.index_files in
-    let lock = option_map (λ l. lock_view l.now) c.as_ref-lock.result in
+    let test = upgrade_test_is r c.as_ref-lock.result c.as_slice-crates.result.now _
+    c.as_ref-lock.ensures.value c.as_slice-crates.ensures.value c.index_restriction-restriction.ensures in
     subst (λ p. HaveDistinctPaths p.outputs.items) (sym (ap (λ (d : Delivery). d.plan) c.delivery_task-task.ensures))
-    (plan_paths args s lock local c.in-Ok.plan c.in_ok-readings.ensures.planned.paths
-    (planned_for args s local c.in-Ok.plan _ lock c.restriction-locked.ensures c.in-Ok.ensures.planned))
+    (plan_paths r local c.in-Ok.plan c.in_ok-readings.ensures.planned.paths
+    (planned_for r local c.in-Ok.plan _ test c.in-Ok.ensures.planned))
 
 pub deliver-requires-clause-rows : goal.deliver-requires-clause-rows
 deliver-requires-clause-rows g c =
@@ -101,22 +96,20 @@ returns-in-Ok-deliver-clause-done g c =
     let new = g.S.Store.view c.deliver.new.files in
     let HasFields = Appends (g.O.Write.contents c.args.out.now) (g.O.Write.contents c.deliver.new.out) in
     let HasDecodedValue = Appends (g.E.Write.contents c.args.err.now) (g.E.Write.contents c.deliver.new.err) in
-    let s = c.in_ok-readings.readings.sources in
+    let r = c.in_ok-readings.readings in
     let plan = c.in-Ok.plan in
     let path = given c.as_deref-path.result in
-    let read : old.tells ≡ true → IsRead args current home old.file_at s =
-    c.in_ok-readings.ensures.read in
+    let ready : old.tells ≡ true → IsReady args current home old.file_at r = c.in_ok-readings.ensures.ready in
     let at = subst (IsPathOf current (given args.update_calls)) (sym c.as_deref-path.ensures.value)
     c.in_ok-named.ensures.path in
-    let lock = option_map (λ l. lock_view l.now) c.as_ref-lock.result in
-    let planned = planned_for args s local plan _ lock c.restriction-locked.ensures c.in-Ok.ensures.planned in
-    let locked : old.tells ≡ true → IsLockRead args.to_lockfile old.file_at current (given args.lock_file) lock =
-    λ t. subst (IsLockRead args.to_lockfile old.file_at current (given args.lock_file))
-    (sym (same_lock c.as_ref-lock.result c.in_ok-readings.readings.lock c.as_ref-lock.ensures.value))
-    (c.in_ok-readings.ensures.locked t) in
-    upgraded c.has_outputs.result HasFields HasDecodedValue args current home local old mid new s plan path lock
-    c.in_ok-readings.ensures.store read planned at locked
-    (answered c.has_outputs.result HasFields HasDecodedValue mid new _ _ c.delivery_task-task.ensures c.has_outputs.ensures
+    let test = upgrade_test_is r c.as_ref-lock.result c.as_slice-crates.result.now _
+    c.as_ref-lock.ensures.value c.as_slice-crates.ensures.value c.index_restriction-restriction.ensures in
+    let planned = planned_for r local plan _ test c.in-Ok.ensures.planned in
+    let delivered = delivery_is r current plan path c.as_ref-lock.result c.as_slice-crates.result.now _
+    c.as_ref-lock.ensures.value c.as_slice-crates.ensures.value c.delivery_task-task.ensures in
+    upgraded c.has_outputs.result HasFields HasDecodedValue args current home local old mid new r plan path
+    c.in_ok-readings.ensures.store ready planned at
+    (answered c.has_outputs.result HasFields HasDecodedValue mid new _ _ delivered c.has_outputs.ensures
     c.in-Ok-deliver.ensures.done c.in-Ok-deliver.ensures.content)
 
 pub returns-clause-error : goal.returns-clause-error
@@ -129,22 +122,20 @@ returns-clause-error g c =
     let mid = g.S.Store.view c.read.new.files in
     let new = g.S.Store.view c.deliver.new.files in
     let HasFields = Appends (g.O.Write.contents c.args.out.now) (g.O.Write.contents c.deliver.new.out) in
-    let s = c.in_ok-readings.readings.sources in
+    let r = c.in_ok-readings.readings in
     let plan = c.in-Ok.plan in
     let path = given c.as_deref-path.result in
-    let read : old.tells ≡ true → IsRead args current home old.file_at s =
-    c.in_ok-readings.ensures.read in
+    let ready : old.tells ≡ true → IsReady args current home old.file_at r = c.in_ok-readings.ensures.ready in
     let at = subst (IsPathOf current (given args.update_calls)) (sym c.as_deref-path.ensures.value)
     c.in_ok-named.ensures.path in
-    let lock = option_map (λ l. lock_view l.now) c.as_ref-lock.result in
-    let planned = planned_for args s local plan _ lock c.restriction-locked.ensures c.in-Ok.ensures.planned in
-    let locked : old.tells ≡ true → IsLockRead args.to_lockfile old.file_at current (given args.lock_file) lock =
-    λ t. subst (IsLockRead args.to_lockfile old.file_at current (given args.lock_file))
-    (sym (same_lock c.as_ref-lock.result c.in_ok-readings.readings.lock c.as_ref-lock.ensures.value))
-    (c.in_ok-readings.ensures.locked t) in
-    broken HasFields args current home local old mid new s plan path lock c.in_ok-readings.ensures.store
-    read planned at locked
-    (subst (λ d. SameFiles mid.file_at new.file_at ⊎ IsDeliveryInterrupted HasFields d mid new) c.delivery_task-task.ensures
+    let test = upgrade_test_is r c.as_ref-lock.result c.as_slice-crates.result.now _
+    c.as_ref-lock.ensures.value c.as_slice-crates.ensures.value c.index_restriction-restriction.ensures in
+    let planned = planned_for r local plan _ test c.in-Ok.ensures.planned in
+    let delivered = delivery_is r current plan path c.as_ref-lock.result c.as_slice-crates.result.now _
+    c.as_ref-lock.ensures.value c.as_slice-crates.ensures.value c.delivery_task-task.ensures in
+    broken HasFields args current home local old mid new r plan path c.in_ok-readings.ensures.store
+    ready planned at
+    (subst (λ d. SameFiles mid.file_at new.file_at ⊎ IsDeliveryInterrupted HasFields d mid new) delivered
     c.in-Err-deliver.ensures.stopped)
 
 pub returns-clause-why : goal.returns-clause-why
@@ -157,23 +148,21 @@ returns-clause-why g c =
     let mid = g.S.Store.view c.read.new.files in
     let new = g.S.Store.view c.deliver.new.files in
     let HasFields = Appends (g.O.Write.contents c.args.out.now) (g.O.Write.contents c.deliver.new.out) in
-    let s = c.in_ok-readings.readings.sources in
+    let r = c.in_ok-readings.readings in
     let plan = c.in-Ok.plan in
     let path = given c.as_deref-path.result in
-    let read : old.tells ≡ true → IsRead args current home old.file_at s =
-    c.in_ok-readings.ensures.read in
+    let ready : old.tells ≡ true → IsReady args current home old.file_at r = c.in_ok-readings.ensures.ready in
     let at = subst (IsPathOf current (given args.update_calls)) (sym c.as_deref-path.ensures.value)
     c.in_ok-named.ensures.path in
-    let lock = option_map (λ l. lock_view l.now) c.as_ref-lock.result in
-    let planned = planned_for args s local plan _ lock c.restriction-locked.ensures c.in-Ok.ensures.planned in
-    let locked : old.tells ≡ true → IsLockRead args.to_lockfile old.file_at current (given args.lock_file) lock =
-    λ t. subst (IsLockRead args.to_lockfile old.file_at current (given args.lock_file))
-    (sym (same_lock c.as_ref-lock.result c.in_ok-readings.readings.lock c.as_ref-lock.ensures.value))
-    (c.in_ok-readings.ensures.locked t) in
+    let test = upgrade_test_is r c.as_ref-lock.result c.as_slice-crates.result.now _
+    c.as_ref-lock.ensures.value c.as_slice-crates.ensures.value c.index_restriction-restriction.ensures in
+    let planned = planned_for r local plan _ test c.in-Ok.ensures.planned in
+    let delivered = delivery_is r current plan path c.as_ref-lock.result c.as_slice-crates.result.now _
+    c.as_ref-lock.ensures.value c.as_slice-crates.ensures.value c.delivery_task-task.ensures in
     subst (λ e. IsUpgradeCause HasFields args (run_at current home local old new) e) (sym c.explain_delivery.ensures)
-    (stop_cause HasFields args current home local old mid new s plan path lock c.in-Err-deliver.error.error
-    c.in_ok-readings.ensures.store read planned at locked
-    (subst (λ d. IsDeliveryCause HasFields d mid new c.in-Err-deliver.error.error) c.delivery_task-task.ensures
+    (stop_cause HasFields args current home local old mid new r plan path c.in-Err-deliver.error.error
+    c.in_ok-readings.ensures.store ready planned at
+    (subst (λ d. IsDeliveryCause HasFields d mid new c.in-Err-deliver.error.error) delivered
     c.in-Err-deliver.ensures.cause))
 
 pub returns-in-Err-clause-counted : goal.returns-in-Err-clause-counted

@@ -1,0 +1,5 @@
+mod DayLemmas
+mod FaultLemmas
+mod FormLemmas
+mod ItemLemmas
+mod PolicyLemmas

@@ -1,0 +1,15 @@
+use Rattle.std.proofs.Common.{subst}
+use Rattle.edit_policy.specs.Manifests.{IsManifestFault}
+use Rattle.edit_program.proofs.PolicyLemmas.{fault_counts}
+use Rattle.edit_program.proofs.upgrade_run.following.policy_in.Goals as goal
+
+pub returns-in-Err-clause-error : goal.returns-in-Err-clause-error
+returns-in-Err-clause-error c =
+    let own = c.in-Err.error in
+    let fault = subst (λ bytes. IsManifestFault bytes own) c.deref.ensures.value c.in-Err.ensures.error in
+    (own, fault, c.explain_policy.ensures)
+
+pub returns-in-Err-clause-counted : goal.returns-in-Err-clause-counted
+returns-in-Err-clause-counted c =
+    fault_counts c.deref.result.now c.in-Err.error c.explain_policy.result.error c.in-Err.ensures.error
+    c.explain_policy.ensures
