@@ -16,6 +16,7 @@ pub mod LockLemmas
 pub mod LookupLemmas
 mod StagingLemmas
 pub mod UpgradeLemmas
+pub mod UpgradeCauseLemmas
 pub mod PrintedLemmas
 pub mod SetVersionLemmas
 pub mod CopyLemmas

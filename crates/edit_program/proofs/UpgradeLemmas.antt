@@ -18,25 +18,19 @@ use Rattle.edit_report.specs.declared.output.Output.{Output}
 use Rattle.edit_sources.specs.Configured.{given}
 use Rattle.edit_steps.proofs.DistinctPaths.{outputs_differ}
 use Rattle.edit_metadata.specs.Inputs.{HaveOwnPaths}
-use Rattle.edit_base.specs.declared.errors.DeviceCall.TheVariants as call
 use Rattle.edit_store.specs.Store.{OnlyReads, SameFiles, StoreView}
 use Rattle.edit_upgrade.specs.Inputs.{outputs_at}
 use Rattle.edit_upgrade.specs.declared.upgrade.UpgradePlan.{UpgradePlan}
-use Rattle.edit_steps.proofs.ReadLemmas.{refused_on}
-use Rattle.edit_steps.specs.Causes.{HasNoIndex, IsReadCause}
 use Rattle.edit_steps.specs.Shared.{lists_for}
 use Rattle.edit_steps.specs.declared.upgrade_read.target.Target.{Target}
 use Rattle.edit_program.proofs.StagingLemmas.{all_stopped_after, behind_after}
-use Rattle.edit_program.specs.DeliveryCauses.{IsDeliveryCause, IsStopped}
 use Rattle.edit_program.specs.Delivered.{AreBothWritten, HaveStopped, IsDeliveryInterrupted, IsDelivered, IsWrittenAfterPrint, upgrade_outputs_to_write}
 use Rattle.edit_program.specs.Delivery.{Delivery, calls_against, calls_of}
-use Rattle.edit_program.specs.Followed.{HasBadPolicy, IsReady}
-use Rattle.edit_program.specs.LockRead.{HasNoLock}
-use Rattle.edit_program.specs.UpgradeCauses.{IsUpgradeCause}
-use Rattle.edit_program.specs.Planned.{IsPlanCause, IsPlanned, index_view, restriction, to_manifest_request, upgrade_index, upgrade_test}
+use Rattle.edit_program.specs.Followed.{IsReady}
+use Rattle.edit_program.specs.Planned.{IsPlanCause, IsPlanned, index_view, restriction, upgrade_index, upgrade_test}
 use Rattle.edit_program.specs.Run.{run_at}
 use Rattle.edit_program.specs.StderrText.{upgrade_stderr_text}
-use Rattle.edit_program.specs.Upgrading.{IsUpgradeResult, IsBroken, IsPathOf, IsPlannedFor, IsUpgraded, called_workspace, delivery_by, delivery_for, diff_root, has_outputs}
+use Rattle.edit_program.specs.Upgrading.{IsUpgradeResult, IsBroken, IsPathOf, IsPlannedFor, IsRevisedFor, IsUpgraded, called_workspace, delivery_by, delivery_for, diff_root, has_outputs, keeps_lock}
 use Rattle.edit_program.specs.declared.upgrade_run.following.Readings.{Readings}
 use Rattle.edit_program.specs.declared.upgrade_run.upgrade_args.UpgradeArgs.{UpgradeArgs}
 
@@ -97,10 +91,11 @@ upgrade_test_is r lent crates test lock same is =
 
 -- a plan for these manifests as the arguments ask for it, where diffs name files from this folder and calls
 -- follow for this workspace
-abbrev delivery_at : UpgradeArgs → UpgradePlan → List Input → Option WorkspaceModel → List ℕ
+abbrev delivery_at : UpgradeArgs → UpgradePlan → List (List ℕ) → List Input → Option WorkspaceModel → List ℕ
     → List CratePolicy → Option (List ℕ) → Option (List Package) → Delivery
-delivery_at args plan inputs called root crates path lock = record {
+delivery_at args plan apart inputs called root crates path lock = record {
   plan = plan;
+  apart = apart;
   inputs = inputs;
   options = args.options;
   current = root;
@@ -112,40 +107,46 @@ delivery_at args plan inputs called root crates path lock = record {
 }
 
 -- what is delivered is what the arguments ask for
-pub same_delivery : (args : UpgradeArgs) (current root : List ℕ) (plan : UpgradePlan) (target : Target)
-    (crates : List CratePolicy) (path : Option (List ℕ)) (lock : Option (List Package)) (inputs : List Input)
-    (r : Option (Bor Workspace)) (called : Option WorkspaceModel)
+pub same_delivery : (args : UpgradeArgs) (current root : List ℕ) (plan : UpgradePlan)
+    (names apart : List (List ℕ)) (target : Target) (crates : List CratePolicy) (path : Option (List ℕ))
+    (lock : Option (List Package)) (inputs : List Input) (r : Option (Bor Workspace))
+    (called : Option WorkspaceModel)
     → root ≡ diff_root current (option_map (λ x. workspace_view x.now) r)
-    → inputs ≡ target.inputs.items → option_copied r ≡ target.workspace
-    → called ≡ called_workspace args.to_lockfile (option_map (λ x. workspace_view x.now) r)
-    → delivery_at args plan inputs called root crates path lock
-    ≡ delivery_by args current plan target crates path lock
-same_delivery args current root plan target crates path lock inputs r called from same is calls =
+    → names ≡ apart → inputs ≡ target.inputs.items → option_copied r ≡ target.workspace
+    → called ≡ called_workspace (keeps_lock args plan) (option_map (λ x. workspace_view x.now) r)
+    → delivery_at args plan names inputs called root crates path lock
+    ≡ delivery_by args current plan apart target crates path lock
+same_delivery args current root plan names apart target crates path lock inputs r called from listed same is
+    calls =
     let workspace = option_map (λ (x : Bor Workspace). workspace_view x.now) r in
-    let of = called_workspace args.to_lockfile in
-    ap (λ (w : Option WorkspaceModel). delivery_at args plan inputs w root crates path lock) calls
-    ∙ ap (λ (folder : List ℕ). delivery_at args plan inputs (of workspace) folder crates path lock) from
-    ∙ ap (λ (xs : List Input). delivery_at args plan xs (of workspace) (diff_root current workspace) crates path
-    lock) same
-    ∙ ap (λ (w : Option WorkspaceModel). delivery_at args plan target.inputs.items (of w) (diff_root current w)
-    crates path lock) (same_workspace r target.workspace is)
+    let of = called_workspace (keeps_lock args plan) in
+    ap (λ (w : Option WorkspaceModel). delivery_at args plan names inputs w root crates path lock) calls
+    ∙ ap (λ (folder : List ℕ). delivery_at args plan names inputs (of workspace) folder crates path lock) from
+    ∙ ap (λ (ns : List (List ℕ)). delivery_at args plan ns inputs (of workspace) (diff_root current workspace)
+    crates path lock) listed
+    ∙ ap (λ (xs : List Input). delivery_at args plan apart xs (of workspace) (diff_root current workspace)
+    crates path lock) same
+    ∙ ap (λ (w : Option WorkspaceModel). delivery_at args plan apart target.inputs.items (of w)
+    (diff_root current w) crates path lock) (same_workspace r target.workspace is)
 
 -- what is delivered, where the lock file and what the policy says of crates are borrowed
-pub delivery_is : (r : Readings) (current : List ℕ) (plan : UpgradePlan) (path : Option (List ℕ))
-    (lent : Option (Bor Lock)) (crates : List CratePolicy) (task : Delivery)
+pub delivery_is : (r : Readings) (current : List ℕ) (plan : UpgradePlan) (apart : List (List ℕ))
+    (path : Option (List ℕ)) (lent : Option (Bor Lock)) (crates : List CratePolicy) (task : Delivery)
     → option_copied lent ≡ r.lock → crates ≡ r.policy.crates.items
-    → task ≡ delivery_by r.args current plan r.sources.target crates path
+    → task ≡ delivery_by r.args current plan apart r.sources.target crates path
     (option_map (λ l. lock_view l.now) lent)
-    → task ≡ delivery_for r current plan path
-delivery_is r current plan path lent crates task lock same is =
+    → task ≡ delivery_for r current plan apart path
+delivery_is r current plan apart path lent crates task lock same is =
     is
-    ∙ ap (λ (ps : Option (List Package)). delivery_by r.args current plan r.sources.target crates path ps)
+    ∙ ap (λ (ps : Option (List Package)).
+    delivery_by r.args current plan apart r.sources.target crates path ps)
     (same_lock lent r.lock lock)
     ∙ ap (λ (cs : List CratePolicy).
-    delivery_by r.args current plan r.sources.target cs path (option_map lock_view r.lock)) same
+    delivery_by r.args current plan apart r.sources.target cs path (option_map lock_view r.lock)) same
 
 -- a plan was delivered, and the answer is whether it changes a manifest
-pub answered : (due : Bool) (HasFields HasDecodedValue : List ℕ → Type 0) (old new : StoreView) (task d : Delivery) → task ≡ d
+pub answered : (due : Bool) (HasFields HasDecodedValue : List ℕ → Type 0) (old new : StoreView)
+    (task d : Delivery) → task ≡ d
     → due ≡ has_outputs d.plan → IsDelivered HasFields task old new
     → HasDecodedValue (upgrade_stderr_text task)
     → IsUpgradeResult due HasFields HasDecodedValue old new d
@@ -157,8 +158,9 @@ answered due HasFields HasDecodedValue old new task d same is delivered says = r
 
 -- ---- behind reads
 
-printed_after : (Leaves : List Output → List Output → StoreView → StoreView → Type 0) (HasFields : List ℕ → Type 0)
-    (d : Delivery) (old mid new : StoreView)
+-- what was printed and left behind reads
+pub printed_after : (Leaves : List Output → List Output → StoreView → StoreView → Type 0)
+    (HasFields : List ℕ → Type 0) (d : Delivery) (old mid new : StoreView)
     → ((first last : List Output) → Leaves first last mid new → Leaves first last old new)
     → IsWrittenAfterPrint Leaves HasFields d mid new → IsWrittenAfterPrint Leaves HasFields d old new
 printed_after Leaves HasFields d old mid new after printed = record {
@@ -170,22 +172,26 @@ printed_after Leaves HasFields d old mid new after printed = record {
 }
 
 -- a plan that was delivered
-pub upgraded : (due : Bool) (HasFields HasDecodedValue : List ℕ → Type 0) (args : UpgradeArgs) (current : List ℕ)
-    (home : Option (List ℕ)) (local old mid new : StoreView) (r : Readings) (plan : UpgradePlan)
-    (path : Option (List ℕ)) → OnlyReads old mid
-    → (old.tells ≡ true → IsReady args current home old.file_at r) → IsPlannedFor r local plan
+pub upgraded : (due : Bool) (HasFields HasDecodedValue : List ℕ → Type 0) (args : UpgradeArgs)
+    (current : List ℕ) (home : Option (List ℕ)) (local old mid new : StoreView) (r : Readings)
+    (single plan : UpgradePlan) (apart : List (List ℕ)) (path : Option (List ℕ)) → OnlyReads old mid
+    → (old.tells ≡ true → IsReady args current home old.file_at r) → IsPlannedFor r local single
+    → IsRevisedFor r single plan apart
     → IsPathOf current (given args.update_calls) path
-    → IsUpgradeResult due HasFields HasDecodedValue mid new (delivery_for r current plan path)
+    → IsUpgradeResult due HasFields HasDecodedValue mid new (delivery_for r current plan apart path)
     → old.tells ≡ true → IsUpgraded due HasFields HasDecodedValue args (run_at current home local old new)
-upgraded due HasFields HasDecodedValue args current home local old mid new r plan path reads ready planned at answered
-    t =
-    let d = delivery_for r current plan path in
+upgraded due HasFields HasDecodedValue args current home local old mid new r single plan apart path reads
+    ready planned revised at answered t =
+    let d = delivery_for r current plan apart path in
     record {
       readings = r;
+      single = single;
       plan = plan;
+      apart = apart;
       path = path;
       ready = ready t;
       planned = planned;
+      revised = revised;
       at = at;
       ends = record {
         is = answered.is;
@@ -209,109 +215,29 @@ cut_after HasFields d old mid new reads (inr whole) =
 
 -- and one whose delivery was refused
 pub broken : (HasFields : List ℕ → Type 0) (args : UpgradeArgs) (current : List ℕ)
-    (home : Option (List ℕ)) (local old mid new : StoreView) (r : Readings) (plan : UpgradePlan)
-    (path : Option (List ℕ)) → OnlyReads old mid
-    → (old.tells ≡ true → IsReady args current home old.file_at r) → IsPlannedFor r local plan
+    (home : Option (List ℕ)) (local old mid new : StoreView) (r : Readings) (single plan : UpgradePlan)
+    (apart : List (List ℕ)) (path : Option (List ℕ)) → OnlyReads old mid
+    → (old.tells ≡ true → IsReady args current home old.file_at r) → IsPlannedFor r local single
+    → IsRevisedFor r single plan apart
     → IsPathOf current (given args.update_calls) path
     → SameFiles mid.file_at new.file_at
-    ⊎ IsDeliveryInterrupted HasFields (delivery_for r current plan path) mid new
+    ⊎ IsDeliveryInterrupted HasFields (delivery_for r current plan apart path) mid new
     → old.tells ≡ true
     → SameFiles old.file_at new.file_at ⊎ IsBroken HasFields args (run_at current home local old new)
-broken HasFields args current home local old mid new r plan path reads ready planned at (inl unchanged) t =
+broken HasFields args current home local old mid new r single plan apart path reads ready planned revised at
+    (inl unchanged) t =
     inl (λ file. unchanged file ∙ reads.files file)
-broken HasFields args current home local old mid new r plan path reads ready planned at (inr cut) t =
+broken HasFields args current home local old mid new r single plan apart path reads ready planned revised at
+    (inr cut) t =
     inr (record {
       readings = r;
+      single = single;
       plan = plan;
+      apart = apart;
       path = path;
       ready = ready t;
       planned = planned;
+      revised = revised;
       at = at;
-      ends = cut_after HasFields (delivery_for r current plan path) old mid new reads cut;
+      ends = cut_after HasFields (delivery_for r current plan apart path) old mid new reads cut;
     })
-
--- ---- causes
-
--- what the arguments name is not read
-pub read_cause : (HasFields : List ℕ → Type 0) (args : UpgradeArgs) (current : List ℕ) (home : Option (List ℕ))
-    (local old new : StoreView) (e : Error) → SameFiles old.file_at new.file_at
-    → IsReadCause current home (to_manifest_request args) old new e
-    → IsUpgradeCause HasFields args (run_at current home local old new) e
-read_cause HasFields args current home local old new e same (inl failed) = inr (inl (same, failed))
-read_cause HasFields args current home local old new e same (inr wrong) =
-    inr (inr (inr (inr (λ t. inl (same, inr (inl (wrong t)))))))
-
--- nor its lock file
-pub lock_cause : (HasFields : List ℕ → Type 0) (args : UpgradeArgs) (current : List ℕ) (home : Option (List ℕ))
-    (local old new : StoreView) (e : Error) → SameFiles old.file_at new.file_at
-    → IsReadCause current home (to_manifest_request args) old new e
-    ⊎ (old.tells ≡ true → HasNoLock args.to_lockfile old.file_at current (given args.lock_file) e)
-    → IsUpgradeCause HasFields args (run_at current home local old new) e
-lock_cause HasFields args current home local old new e same (inl cause) =
-    read_cause HasFields args current home local old new e same cause
-lock_cause HasFields args current home local old new e same (inr none) =
-    inr (inr (inr (inr (λ t. inl (same, inl (none t))))))
-
--- nor can its policy be followed, or its index be read
-pub policy_cause : (HasFields : List ℕ → Type 0) (args : UpgradeArgs) (current : List ℕ)
-    (home : Option (List ℕ)) (local old new : StoreView) (e : Error) → SameFiles old.file_at new.file_at
-    → (IsReadCause current home (to_manifest_request args) old new e
-    ⊎ (old.tells ≡ true → HasNoLock args.to_lockfile old.file_at current (given args.lock_file) e))
-    ⊎ (old.tells ≡ true → HasBadPolicy args current home old.file_at e
-    ⊎ HasNoIndex old.file_at current (given args.index_file) e)
-    → IsUpgradeCause HasFields args (run_at current home local old new) e
-policy_cause HasFields args current home local old new e same (inl cause) =
-    lock_cause HasFields args current home local old new e same cause
-policy_cause HasFields args current home local old new e same (inr bad) =
-    inr (inr (inr (inr (λ t. inl (same, inr (inr (inl (bad t))))))))
-
--- there is no plan for it
-pub plan_cause : (HasFields : List ℕ → Type 0) (args : UpgradeArgs) (current : List ℕ) (home : Option (List ℕ))
-    (local old new : StoreView) (r : Readings) (e : Error) → SameFiles old.file_at new.file_at
-    → (old.tells ≡ true → IsReady args current home old.file_at r)
-    → IsMemory e ⊎ IsPlanCause r.args.options r.sources.target.inputs.items (lists_for r.sources.configs)
-    (upgrade_index r local) e
-    → IsUpgradeCause HasFields args (run_at current home local old new) e
-plan_cause HasFields args current home local old new r e same ready (inl memory) = inl memory
-plan_cause HasFields args current home local old new r e same ready (inr wrong) =
-    inr (inr (inr (inr (λ t. inl (
-      same,
-      inr (inr (inr (record { readings = r; ready = ready t; cause = wrong }))),
-    )))))
-
--- a plan is not carried out behind reads
-stopped_later : (HasFields : List ℕ → Type 0) (d : Delivery) (old mid new : StoreView) (e : Error)
-    → OnlyReads old mid
-    → IsStopped HasFields d mid new e → IsStopped HasFields d old new e
-stopped_later HasFields d old mid new e reads (inl held) =
-    inl ((λ path. held.0 path ∙ reads.files path), held.1)
-stopped_later HasFields d old mid new e reads (inr lacks) = inr (
-  printed_after AreBothWritten HasFields d old mid new
-      (λ first last. behind_after AreWritten first last old mid new reads) lacks.0,
-  lacks.1,
-)
-
--- the plan is not delivered
-pub stop_cause : (HasFields : List ℕ → Type 0) (args : UpgradeArgs) (current : List ℕ) (home : Option (List ℕ))
-    (local old mid new : StoreView) (r : Readings) (plan : UpgradePlan) (path : Option (List ℕ)) (e : Error)
-    → OnlyReads old mid
-    → (old.tells ≡ true → IsReady args current home old.file_at r) → IsPlannedFor r local plan
-    → IsPathOf current (given args.update_calls) path
-    → IsDeliveryCause HasFields (delivery_for r current plan path) mid new e
-    → IsUpgradeCause HasFields args (run_at current home local old new) e
-stop_cause HasFields args current home local old mid new r plan path e reads ready planned at (inl refused) =
-    inr (inr (inl (refused_on call.Write old mid new e reads refused)))
-stop_cause HasFields args current home local old mid new r plan path e reads ready planned at
-    (inr (inl unwritten)) =
-    inr (inr (inr (inl unwritten)))
-stop_cause HasFields args current home local old mid new r plan path e reads ready planned at
-    (inr (inr stopped)) =
-    inr (inr (inr (inr (λ t. inr (record {
-      readings = r;
-      plan = plan;
-      path = path;
-      ready = ready t;
-      planned = planned;
-      at = at;
-      ends = stopped_later HasFields (delivery_for r current plan path) old mid new e reads stopped;
-    })))))

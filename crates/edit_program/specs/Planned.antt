@@ -43,8 +43,8 @@ to_request args = record {
   rust = rust_request args.rust;
 }
 
--- the files to read without an index: before the policy is known, which may bound it, and where only the lookups
--- are requested
+-- the files to read without an index: before the policy is known, which may bound it, and where only the
+-- lookups are requested
 abbrev pub to_manifest_request : UpgradeArgs → RequestView
 to_manifest_request args = record {
   manifest = given args.manifest_path;
@@ -68,8 +68,8 @@ index_view bound (source.Folder folder) local = dir_view (string_bytes folder) (
 abbrev pub restriction : Bool → Option (List Package) → Option (List Package)
 restriction to_lockfile lock = if to_lockfile then Some (unwrap_or lock []) else None
 
--- the versions to which the index of an upgrade is restricted: with `--to-lockfile` those of the lock file, and
--- those that the holds of the policy admit
+-- the versions to which the index of an upgrade is restricted: with `--to-lockfile` those of the lock file,
+-- and those that the holds of the policy admit
 abbrev pub upgrade_test : Readings → Option VersionTest
 upgrade_test r =
     restriction_test (restriction r.args.to_lockfile (option_map lock_view r.lock)) r.policy.crates.items

@@ -141,7 +141,8 @@ hidden_note verbosity [] = []
 hidden_note verbosity (row ∷ rows) = note (hidden_text verbosity (row ∷ rows))
 
 -- the notes on a plan, that on crates in more than one compatible range, the warning that a dry run wrote
--- nothing, the note on crates missing in the index, and the notes on what was held back for the age of versions
+-- nothing, the note on crates missing in the index, and the notes on what was held back for the age of
+-- versions
 abbrev pub notes : UpgradePlan → List (List ℕ) → Options → Bool → List ℕ
 notes plan apart options offline =
     message_if plan.pinned_present
@@ -154,8 +155,8 @@ notes plan apart options offline =
     ++ (absent_note plan options offline
     ++ held_back_notes plan options)))))
 
--- all that standard error has of a plan: the report on each input, the calls, the notes on the crates that the
--- policy holds, and the other notes
+-- all that standard error has of a plan: the report on each input, the calls, the notes on the crates that
+-- the policy holds, and the other notes
 abbrev pub upgrade_stderr_text : Delivery → List ℕ
 upgrade_stderr_text d =
     input_reports d.options.verbosity d.plan.warnings.items d.inputs (length d.inputs)

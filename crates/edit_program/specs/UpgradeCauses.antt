@@ -41,8 +41,8 @@ pub record HasNoUpgradePlan (args : UpgradeArgs) (current : List ℕ) (home : Op
   pub cause : IsPlanCause readings.args.options readings.sources.target.inputs.items
       (lists_for readings.sources.configs) (upgrade_index readings local) e
 
--- the cause of an error before there is a plan: the lock file or another file cannot be read, the policy cannot
--- be followed, the index cannot be read, or planning fails
+-- the cause of an error before there is a plan: the lock file or another file cannot be read, the policy
+-- cannot be followed, the index cannot be read, or planning fails
 abbrev pub IsUnplanned : UpgradeArgs → List ℕ → Option (List ℕ) → StoreView → Files → Error → Type 0
 IsUnplanned args current home local files e =
     HasNoLock args.to_lockfile files current (given args.lock_file) e

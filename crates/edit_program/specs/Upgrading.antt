@@ -52,9 +52,9 @@ keeps_lock args plan = args.to_lockfile || (is_some args.rows && not (has_output
 abbrev pub called_workspace : Bool → Option WorkspaceModel → Option WorkspaceModel
 called_workspace keeps_lock workspace = if keeps_lock then None else workspace
 
--- a plan for these manifests, as the arguments request it to be printed, with the crates that it leaves in more
--- than one compatible range, what the policy says of crates, and this path for the file of the calls, which are
--- adapted to the lock file with these packages, where there is one
+-- a plan for these manifests, as the arguments request it to be printed, with the crates that it leaves in
+-- more than one compatible range, what the policy says of crates, and this path for the file of the calls,
+-- which are adapted to the lock file with these packages, where there is one
 abbrev pub delivery_by : UpgradeArgs → List ℕ → UpgradePlan → List (List ℕ) → Target → List CratePolicy
     → Option (List ℕ) → Option (List Package) → Delivery
 delivery_by args current plan apart target crates path lock = record {
@@ -84,8 +84,8 @@ abbrev pub IsRevisedFor : Readings → UpgradePlan → UpgradePlan → List (Lis
 IsRevisedFor r single plan apart =
     IsRevised r.args r.sources.target.inputs.items (lists_for r.sources.configs) single plan apart
 
--- the given files were read and planned by the policy, the plan is unified and restricted to chosen rows where
--- that is requested, and this holds of it with the request to print and write it
+-- the given files were read and planned by the policy, the plan is unified and restricted to chosen rows
+-- where that is requested, and this holds of it with the request to print and write it
 pub record IsPlannedTo (Ends : Delivery → Type 0) (args : UpgradeArgs) (current : List ℕ)
     (home : Option (List ℕ)) (local : StoreView) (files : Files) : Type 0 where
   pub readings : Readings

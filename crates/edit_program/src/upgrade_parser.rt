@@ -167,8 +167,8 @@ fn options_of<'a>(
     })
 }
 
-/// Which of the choices of an upgrade arguments give. `--to-lockfile` gives that on incompatible upgrades: they
-/// are excluded then.
+/// Which of the choices of an upgrade arguments give. `--to-lockfile` gives that on incompatible upgrades:
+/// they are excluded then.
 fn given_choices(matches: &ArgMatches<'_>) -> GivenChoices
     ensures { HasGivenChoices (rows_of (found_of matches.now)) result }
 {

@@ -62,8 +62,9 @@ fn called_workspace(keeps_lock: bool, workspace: Option<&Workspace>) -> Option<&
     if keeps_lock { None } else { workspace }
 }
 
-/// How the plan for these manifests is printed and written, from the arguments and from what the policy says of
-/// crates. `path` is that of the file for the calls, which are adapted to the lock file where there is one.
+/// How the plan for these manifests is printed and written, from the arguments and from what the policy says
+/// of crates. `path` is that of the file for the calls, which are adapted to the lock file where there is
+/// one.
 pub(crate) fn delivery_task<'a>(
     args: &'a UpgradeArgs<'_>,
     current: &'a str,

@@ -230,8 +230,8 @@ fn over_index<'a, S: Store>(
     })
 }
 
-/// Reads the given lock file and the manifests, follows the policy of the manifest in the root, and then reads
-/// the index, which the policy may bound. No file changes.
+/// Reads the given lock file and the manifests, follows the policy of the manifest in the root, and then
+/// reads the index, which the policy may bound. No file changes.
 pub(crate) fn read<'a, S: Store>(
     alloc: Global,
     args: &UpgradeArgs<'a>,

@@ -29,8 +29,8 @@ fn age_bound(time: Option<&str>, age: Option<u32>) -> Option<Option<PublishedBef
     }
 }
 
-/// The bound on the time of publication: the given one, else the one of the age that the policy sets, where it
-/// sets one. `None` where that age has no time from which it counts back.
+/// The bound on the time of publication: the given one, else the one of the age that the policy sets, where
+/// it sets one. `None` where that age has no time from which it counts back.
 fn merge_bounds(
     bound: Option<PublishedBefore>,
     time: Option<&str>,

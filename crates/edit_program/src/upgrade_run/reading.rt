@@ -20,7 +20,8 @@ use edit_steps::{RunResult, absolute_path, at_file, at_path};
 use edit_store::Store;
 use std::alloc::Global;
 
-/// The files that an upgrade depends on, without an index, and the lock file that its calls must be valid for.
+/// The files that an upgrade depends on, without an index, and the lock file that its calls must be valid
+/// for.
 pub(crate) struct ReadFiles {
     pub(crate) sources: Sources,
     pub(crate) lock: Option<Lock>,
@@ -108,8 +109,8 @@ pub(crate) fn read_files<S: Store>(
         → IsLockRead args.now.to_lockfile (S.view files.old).file_at current.now (given args.now.lock_file)
         (option_map lock_view r.lock)) }
     ensures planned { IfOk result (λ r. MayBePlanned r.sources) }
-    ensures error { IfErr result (λ r. IsReadCause current.now (given cargo_home.entry) (to_manifest_request args.now)
-        (S.view files.old) (S.view files.new) r.error
+    ensures error { IfErr result (λ r. IsReadCause current.now (given cargo_home.entry)
+        (to_manifest_request args.now) (S.view files.old) (S.view files.new) r.error
         ⊎ ((S.view files.old).tells ≡ true
         → HasNoLock args.now.to_lockfile (S.view files.old).file_at current.now (given args.now.lock_file)
         r.error)) }

@@ -31,7 +31,7 @@ pub returns-in_err-published_before-clause-error : goal.returns-in_err-published
 returns-in_err-published_before-clause-error c =
     err_same c.from_residual-in_err-published_before.result c.in_err-published_before.field-0.0 _
     c.from_residual-in_err-published_before.ensures.1 (λ other.
-    inr (inr (inr (inr (inr (inr c.in_err-published_before.ensures.error))))))
+    inr (inr (inr (inr (inr (inr (inl c.in_err-published_before.ensures.error)))))))
 
 pub returns-in_err-to_lockfile-clause-error : goal.returns-in_err-to_lockfile-clause-error
 returns-in_err-to_lockfile-clause-error c =
@@ -42,6 +42,12 @@ returns-in_err-to_lockfile-clause-error c =
       status = c.in_ok-options.ensures.options.incompatible;
       fault = c.in_err-to_lockfile.ensures.error;
     })))))))
+
+pub returns-in_err-rows-clause-error : goal.returns-in_err-rows-clause-error
+returns-in_err-rows-clause-error c =
+    err_same c.from_residual-in_err-rows.result c.in_err-rows.field-0.0 _
+    c.from_residual-in_err-rows.ensures.1 (λ other.
+    inr (inr (inr (inr (inr (inr (inr (c.in_err-rows.ensures.error other))))))))
 
 pub returns-clause-asks : goal.returns-clause-asks
 returns-clause-asks c =
@@ -73,4 +79,6 @@ returns-clause-asks c =
       usable = c.in_ok-to_lockfile.ensures.usable;
       bound = c.in_ok-published_before.ensures.ok;
       time = option_text_is c.args.matches.now (codes "now") c.get_str-10.result _ refl c.get_str-10.ensures;
+      unify = search rules;
+      choice = c.in_ok-rows.ensures.ok;
     }
