@@ -17,6 +17,7 @@ pub mod LookupLemmas
 mod StagingLemmas
 pub mod UpgradeLemmas
 pub mod UpgradeCauseLemmas
+mod RevisionLemmas
 pub mod PrintedLemmas
 pub mod SetVersionLemmas
 pub mod CopyLemmas
