@@ -12,6 +12,7 @@ complete -c cargo -n '__fish_seen_subcommand_from upgrade' -l never-lower -d 'Lo
 complete -c cargo -n '__fish_seen_subcommand_from upgrade' -l to-lockfile -d 'Raise only to the versions in Cargo.lock'
 complete -c cargo -n '__fish_seen_subcommand_from upgrade' -l unify -d 'Raises differing requirements of a crate to the highest'
 complete -c cargo -n '__fish_seen_subcommand_from upgrade' -l interactive -d 'Shows what would change as numbered rows, and asks which ones to change'
+complete -c cargo -n '__fish_seen_subcommand_from upgrade' -l no-policy -d 'Ignores the policy of the root manifest'
 complete -c cargo -n '__fish_seen_subcommand_from upgrade' -l published-before -x -d 'Raise only to versions published by this time, as 2026-05-01T12:00:00Z'
 complete -c cargo -n '__fish_seen_subcommand_from upgrade' -l min-age -x -d 'Raise only to versions that are at least this many days old'
 complete -c cargo -n '__fish_seen_subcommand_from upgrade' -l check -d 'Like `--dry-run`, with status 1 where something would change'
