@@ -7,10 +7,11 @@ use Rattle.edit_base.specs.declared.errors.Error.{Error}
 use Rattle.edit_base.specs.declared.errors.Error.TheVariants as error
 use Rattle.edit_choice.specs.declared.items.RowChoice.{RowChoice}
 use Rattle.edit_metadata.specs.declared.input.Input.{Input}
+use Rattle.edit_report.specs.declared.row.Row.{Row}
 use Rattle.edit_sources.specs.declared.config.Config.{Config}
 use Rattle.edit_upgrade.specs.declared.upgrade.UpgradePlan.{UpgradePlan}
 use Rattle.edit_version.specs.declared.levels.Level.{Level}
-use Rattle.edit_program.specs.Choosing.{AreRowsListedIn, IsChosenOrSame}
+use Rattle.edit_program.specs.Choosing.{AreRowsListedIn, HasMissingRow, IsChosenOrSame}
 use Rattle.edit_program.specs.Revising.{IsRevised, IsRevisionError}
 use Rattle.edit_program.specs.Unifying.{IsUnifiedOrSame}
 use Rattle.edit_program.specs.declared.upgrade_run.upgrade_args.UpgradeArgs.{UpgradeArgs}
@@ -46,8 +47,15 @@ listed_counts missing (error.Device _) listed device = absurd listed
 listed_counts missing other listed device = cc device
 
 -- an error of a choice is not the device's
+missing_counts : {P : Type 0} (choice : Option RowChoice) (rows : List Row) (e : Error)
+    → HasMissingRow choice rows e → number_of e ≡ 3 → P
+missing_counts (Some choice) rows e missing device = listed_counts _ e missing.1 device
+missing_counts None rows e none device = absurd none
+
+-- an error of the plan that is carried out is not the device's
 pub revision_counts : {P : Type 0} (args : UpgradeArgs) (inputs : List Input) (configs : List (Vec Config))
     (single : UpgradePlan) (e : Error) → IsMemory e ⊎ IsRevisionError args inputs configs single e
     → number_of e ≡ 3 → P
 revision_counts args inputs configs single e (inl memory) device = memory_counts e memory device
-revision_counts args inputs configs single e (inr wrong) device = listed_counts _ e wrong.missing.1 device
+revision_counts args inputs configs single e (inr wrong) device =
+    missing_counts args.rows wrong.unified.rows.items e wrong.missing device

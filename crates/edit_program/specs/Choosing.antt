@@ -37,3 +37,8 @@ AreRowsListedIn missing other = ⊥
 abbrev pub IsMissingRow : RowChoice → List Row → Error → Type 0
 IsMissingRow choice rows e =
     (missing_texts choice rows ≢ []) × AreRowsListedIn (missing_texts choice rows) e
+
+-- the same of a choice, where there is one
+abbrev pub HasMissingRow : Option RowChoice → List Row → Error → Type 0
+HasMissingRow (Some choice) rows e = IsMissingRow choice rows e
+HasMissingRow None rows e = ⊥

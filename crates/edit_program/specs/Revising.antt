@@ -1,5 +1,5 @@
 -- The plan that is carried out: unified and restricted to chosen rows, as requested.
-use Rattle.std.specs.Prelude.{◌≡◌, ℕ, List, Option, Some, String, map, string_bytes}
+use Rattle.std.specs.Prelude.{◌≡◌, ℕ, List, Option, String, map, string_bytes}
 use Rattle.std.specs.Global.{Vec}
 use Rattle.std.specs.declared.alloc.Global.{Global}
 use Rattle.edit_base.specs.declared.errors.Error.{Error}
@@ -8,8 +8,7 @@ use Rattle.edit_sources.specs.declared.config.Config.{Config}
 use Rattle.edit_upgrade.specs.declared.upgrade.UpgradePlan.{UpgradePlan}
 use Rattle.edit_unify.specs.Apart.{AreNames, apart_names}
 use Rattle.edit_unify.specs.Stands.{stands_of}
-use Rattle.edit_choice.specs.declared.items.RowChoice.{RowChoice}
-use Rattle.edit_program.specs.Choosing.{IsChosenOrSame, IsMissingRow}
+use Rattle.edit_program.specs.Choosing.{HasMissingRow, IsChosenOrSame}
 use Rattle.edit_program.specs.Unifying.{IsUnifiedOrSame}
 use Rattle.edit_program.specs.declared.upgrade_run.upgrade_args.UpgradeArgs.{UpgradeArgs}
 
@@ -34,6 +33,4 @@ pub record IsRevisionError (args : UpgradeArgs) (inputs : List Input) (configs :
   pub unified : UpgradePlan
   pub addresses : List (Option (List ℕ))
   pub unifies : IsUnifiedOrSame args.unify args.options.level inputs configs single unified addresses
-  pub choice : RowChoice
-  pub given : args.rows ≡ Some choice
-  pub missing : IsMissingRow choice unified.rows.items e
+  pub missing : HasMissingRow args.rows unified.rows.items e

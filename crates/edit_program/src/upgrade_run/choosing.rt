@@ -1,10 +1,10 @@
 //! A plan of which only the chosen rows change.
-ghost use Rattle.std.specs.Prelude.{◌≡◌, ◌≢◌, ◌⊎◌, [], IfErr, IfOk, OnOk};
+ghost use Rattle.std.specs.Prelude.{◌≡◌, ◌⊎◌, [], IfErr, IfOk, OnOk, option_copied};
 ghost use Rattle.edit_base.specs.Errors.{IsMemory};
 ghost use Rattle.edit_steps.specs.Sources.{AreDocuments};
 ghost use Rattle.edit_upgrade.specs.Revisions.{AreRowsOf};
 ghost use Rattle.edit_choice.specs.ChosenRows.{missing_texts};
-ghost use Rattle.edit_program.specs.Choosing.{IsChosenOrSame, IsChosenPlan, IsMissingRow};
+ghost use Rattle.edit_program.specs.Choosing.{HasMissingRow, IsChosenOrSame, IsChosenPlan, IsMissingRow};
 
 use edit_base::{CargoResult, Error, MissingKind, MissingNames};
 use edit_choice::{RowChoice, chosen_rows, missing_items};
@@ -64,7 +64,10 @@ pub(crate) fn choose_plan(
 ) -> CargoResult<UpgradePlan>
     requires documents { AreDocuments target.now.documents.items target.now.inputs.items }
     requires rows { AreRowsOf target.now.inputs.items plan.rows.items }
-    ensures chosen { IfOk result (IsChosenOrSame choice.entry target.now.inputs.items plan) }
+    ensures chosen { IfOk result
+        (IsChosenOrSame (option_copied choice.entry) target.now.inputs.items plan) }
+    ensures error { IfErr result (λ e. IsMemory e
+        ⊎ HasMissingRow (option_copied choice.entry) plan.rows.items e) }
 {
     match choice {
         Some(choice) => chosen_plan(alloc, choice, target, plan),
