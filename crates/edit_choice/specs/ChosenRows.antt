@@ -44,9 +44,13 @@ AreChosen choice rows after = AreChosenFrom choice 0 rows after
 abbrev pub count_changes : List Row → ℕ
 count_changes rows = length (filter (λ row. is_some row.change) rows)
 
+-- a row changes, and is one of this crate
+abbrev pub is_change_of : List ℕ → Row → Bool
+is_change_of name row = is_some row.change && bytes_eq (string_bytes row.name) name
+
 -- a row of this crate changes
 abbrev pub has_change : List ℕ → List Row → Bool
-has_change name rows = list_any (λ row. is_some row.change && bytes_eq (string_bytes row.name) name) rows
+has_change name rows = list_any (is_change_of name) rows
 
 -- the text of an item that chooses a row which is not there
 abbrev pub missing_text : List Row → RowItem → Option (List ℕ)

@@ -1,7 +1,7 @@
 //! Rows of which only the chosen ones change.
-ghost use Rattle.std.specs.Prelude.{◌≡◌, IfErr, IfOk, map, string_bytes};
+ghost use Rattle.std.specs.Prelude.{◌≡◌, IfErr, IfOk, map, option_map, string_bytes};
 ghost use Rattle.edit_base.specs.Errors.{IsMemory};
-ghost use Rattle.edit_choice.specs.ChosenRows.{AreChosen, IsUnchanged, missing_texts};
+ghost use Rattle.edit_choice.specs.ChosenRows.{AreChosen, IsUnchanged, count_changes, has_change, is_change_of, missing_text, missing_texts};
 
 use crate::items::{RowChoice, RowItem, is_chosen};
 use edit_base::CargoResult;
@@ -50,7 +50,9 @@ pub fn chosen_rows(alloc: Global, choice: &RowChoice<'_>, rows: Vec<Row>) -> Car
 }
 
 /// How many rows change.
-fn count_changes(rows: &[Row]) -> u64 {
+fn count_changes(rows: &[Row]) -> u64
+    ensures { result ≡ count_changes rows.now }
+{
     let mut count: u64 = 0;
     'rows: for row in rows {
         if row.change.is_some() {
@@ -60,22 +62,31 @@ fn count_changes(rows: &[Row]) -> u64 {
     count
 }
 
+/// Whether a row changes, and is one of this crate.
+fn is_change_of(name: &str, row: &Row) -> bool
+    ensures { result ≡ is_change_of name.now row.now }
+{
+    row.change.is_some() && row.name.as_str() == name
+}
+
 /// Whether a row of a crate changes.
-fn has_change(name: &str, rows: &[Row]) -> bool {
-    rows.iter()
-        .any(|row| row.change.is_some() && row.name.as_str() == name)
+fn has_change(name: &str, rows: &[Row]) -> bool
+    ensures { result ≡ has_change name.now rows.now }
+{
+    rows.iter().any(|row| is_change_of(name, row))
 }
 
 /// The text of an item that chooses a row which is not there; `None` where each row is there.
 fn missing_text(
     alloc: Global,
     item: RowItem<'_>,
-    count: u64,
     rows: &[Row],
-) -> Result<Option<String>, AllocError> {
+) -> Result<Option<String>, AllocError>
+    ensures { IfOk result (λ o. option_map string_bytes o ≡ missing_text rows.now item.entry) }
+{
     match item {
         RowItem::Numbers(_, last) => {
-            if last <= count {
+            if last <= count_changes(rows) {
                 return Ok(None);
             }
             Ok(Some(format!(in alloc; "{last}")?))
@@ -104,9 +115,8 @@ pub fn missing_items(
         RowChoice::All => return Ok(missing),
         RowChoice::Items(items) => items.as_slice(),
     };
-    let count = count_changes(rows);
     'items: for item in items {
-        if let Some(text) = missing_text(alloc, *item, count, rows)? {
+        if let Some(text) = missing_text(alloc, *item, rows)? {
             missing.push(text)?;
         }
     }

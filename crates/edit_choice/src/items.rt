@@ -1,5 +1,6 @@
 //! What chooses rows: numbers, ranges and names.
 ghost use Rattle.std.specs.Prelude.{◌≡◌, IfOk};
+ghost use Rattle.std.specs.List.{list_any};
 ghost use Rattle.edit_choice.specs.Choices.{IsSameChoice, is_chosen_by};
 
 use std::alloc::{AllocError, Global};
@@ -46,6 +47,8 @@ pub(crate) fn is_chosen_by(item: RowItem<'_>, number: u64, name: &str) -> bool
 }
 
 /// Whether one of the items chooses the row with this number and name.
-pub(crate) fn is_chosen(items: &[RowItem<'_>], number: u64, name: &str) -> bool {
+pub(crate) fn is_chosen(items: &[RowItem<'_>], number: u64, name: &str) -> bool
+    ensures { result ≡ list_any (λ i. is_chosen_by i number name.now) items.now }
+{
     items.iter().any(|item| is_chosen_by(*item, number, name))
 }
