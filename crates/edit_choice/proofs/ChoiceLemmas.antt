@@ -46,12 +46,12 @@ shift false n row rows = refl
 pub chosen_more : (chosen : RowChoice) (n : ℕ) (rows after : List Row) (row a : Row)
     → AreChosenFrom chosen n rows after
     → IsTaken (is_some row.change && not (is_chosen chosen (n + count_changes rows + 1)
-      (string_bytes row.name))) row a
+    (string_bytes row.name))) row a
     → AreChosenFrom chosen n (rows ++ row ∷ []) (after ++ a ∷ [])
 chosen_more chosen n [] [] row a so_far taken =
     let same : n + 0 + 1 ≡ suc n = omega arith in (
       subst (λ k. IsTaken (is_some row.change && not (is_chosen chosen k (string_bytes row.name))) row a) same
-      taken,
+          taken,
       tt,
     )
 chosen_more chosen n (r ∷ rows) [] row a so_far taken = absurd so_far
@@ -59,8 +59,8 @@ chosen_more chosen n [] (b ∷ after) row a so_far taken = absurd so_far
 chosen_more chosen n (r ∷ rows) (b ∷ after) row a so_far taken = (
   so_far.0,
   chosen_more chosen (if is_some r.change then suc n else n) rows after row a so_far.1
-  (subst (λ k. IsTaken (is_some row.change && not (is_chosen chosen (k + 1) (string_bytes row.name))) row a)
-  (shift (is_some r.change) n r (filter (λ x. is_some x.change) rows)) taken),
+      (subst (λ k. IsTaken (is_some row.change && not (is_chosen chosen (k + 1) (string_bytes row.name))) row a)
+      (shift (is_some r.change) n r (filter (λ x. is_some x.change) rows)) taken),
 )
 
 -- a row without a change stays

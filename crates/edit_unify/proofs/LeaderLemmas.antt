@@ -58,14 +58,16 @@ higher_under o b l not_o not_b = grind (arith, nat_tests, not_o, not_b)
 -- the leader from a best one on, where the step to the next one is known
 lead_on : (level : Option Level) (own b other : Required) (stands : List (Option Required)) (l : Required)
     → ((best : Required) → fold (better level own) (Some best) stands ≡ Some l
-      → IsLeading level own best stands l)
+    → IsLeading level own best stands l)
     → (t : Bool) → is_together level own other ≡ t → (h : Bool) → is_higher other.caret b.caret ≡ h
     → fold (better level own) (if t && h then Some other else Some b) stands ≡ Some l
     → IsLeading level own b (Some other ∷ stands) l
 lead_on level own b other stands l rest true t true h is = let r = rest other is in record {
   from = inr (⊎_elim
-      (λ e. (subst (λ x. Contains (Some other ∷ stands) (Some x)) e (has_first (Some other) stands),
-        subst (λ x. is_together level own x ≡ true) e t))
+      (λ e. (
+        subst (λ x. Contains (Some other ∷ stands) (Some x)) e (has_first (Some other) stands),
+        subst (λ x. is_together level own x ≡ true) e t,
+      ))
       (λ p. (has_more (Some other) (Some l) stands p.0, p.1)) r.from);
   over = higher_over b.caret other.caret l.caret r.over h;
   highest = λ x has with. ⊎_elim
@@ -77,7 +79,7 @@ lead_on level own b other stands l rest true t false h is = let r = rest b is in
   over = r.over;
   highest = λ x has with. ⊎_elim
       (λ e. subst (λ y. is_higher y.caret l.caret ≡ false) (some_is other x e)
-        (higher_under other.caret b.caret l.caret h r.over))
+      (higher_under other.caret b.caret l.caret h r.over))
       (λ later. r.highest x later with) (first_or_rest (Some other) (Some x) stands has);
 }
 lead_on level own b other stands l rest false t h e is = let r = rest b is in record {
@@ -121,15 +123,17 @@ lead_from : (level : Option Level) (own other : Required) (stands : List (Option
     → IsLeader level own (Some other ∷ stands) l
 lead_from level own other stands l rest true t is = let r = leading level own other stands l is in
     let among : Contains (Some other ∷ stands) (Some l) × (is_together level own l ≡ true) = ⊎_elim
-      (λ e. (subst (λ x. Contains (Some other ∷ stands) (Some x)) e (has_first (Some other) stands),
-        subst (λ x. is_together level own x ≡ true) e t))
-      (λ p. (has_more (Some other) (Some l) stands p.0, p.1)) r.from in record {
-  among = among.0;
-  together = among.1;
-  highest = λ x has with. ⊎_elim
-      (λ e. subst (λ y. is_higher y.caret l.caret ≡ false) (some_is other x e) r.over)
-      (λ later. r.highest x later with) (first_or_rest (Some other) (Some x) stands has);
-}
+    (λ e. (
+      subst (λ x. Contains (Some other ∷ stands) (Some x)) e (has_first (Some other) stands),
+      subst (λ x. is_together level own x ≡ true) e t,
+    ))
+    (λ p. (has_more (Some other) (Some l) stands p.0, p.1)) r.from in record {
+      among = among.0;
+      together = among.1;
+      highest = λ x has with. ⊎_elim
+          (λ e. subst (λ y. is_higher y.caret l.caret ≡ false) (some_is other x e) r.over)
+          (λ later. r.highest x later with) (first_or_rest (Some other) (Some x) stands has);
+    }
 lead_from level own other stands l rest false t is = let r = rest is in record {
   among = has_more (Some other) (Some l) stands r.among;
   together = r.together;

@@ -60,13 +60,13 @@ alike level a b is x =
     let range = range_alike a.caret b.caret (left _ _ (right _ _ is)) x.caret in
     let keeps = keeps_alike level a.caret b.caret (right _ _ (right _ _ is)) x.caret in
     ap (λ n. (bytes_eq n x.name && bytes_eq a.address x.address)
-      && (is_same_range a.caret x.caret && keeps_level level a.caret x.caret)) name
+    && (is_same_range a.caret x.caret && keeps_level level a.caret x.caret)) name
     ∙ ap (λ n. (bytes_eq b.name x.name && bytes_eq n x.address)
-      && (is_same_range a.caret x.caret && keeps_level level a.caret x.caret)) address
+    && (is_same_range a.caret x.caret && keeps_level level a.caret x.caret)) address
     ∙ ap (λ t. (bytes_eq b.name x.name && bytes_eq b.address x.address)
-      && (t && keeps_level level a.caret x.caret)) range
+    && (t && keeps_level level a.caret x.caret)) range
     ∙ ap (λ t. (bytes_eq b.name x.name && bytes_eq b.address x.address)
-      && (is_same_range b.caret x.caret && t)) keeps
+    && (is_same_range b.caret x.caret && t)) keeps
 
 better_alike : (level : Option Level) (a b : Required)
     → ((x : Required) → is_together level a x ≡ is_together level b x) → (best other : Option Required)
@@ -107,7 +107,7 @@ required_is a name text b (Some caret) of is =
 stands_if : (out : Bool) (address : Option (List ℕ)) (row : Row) (new : Option (String Global)) (b : Required)
     → row.new ≡ new
     → (if out then None else option_and_then (λ a. option_and_then (λ text.
-      required a (string_bytes row.name) (string_bytes text)) new) address) ≡ Some b
+    required a (string_bytes row.name) (string_bytes text)) new) address) ≡ Some b
     → Stands address row b
 stands_if true address row new b new_is is = absurd (none_is b is)
 stands_if false None row new b new_is is = absurd (none_is b is)
@@ -170,7 +170,12 @@ led_none level all b read has None is takes =
 led_none level all b read has (Some l) is takes =
     let r = leader_is level b all l is in
     let text = unless_none (bytes_eq l.text b.text) b.text l.text refl takes in record {
-      own = b; lead = l; leads = is; together = r.together; address_is = refl; name_is = refl;
+      own = b;
+      lead = l;
+      leads = is;
+      together = r.together;
+      address_is = refl;
+      name_is = refl;
       caret_is = same_caret l b text (read l r.among) (read b has);
       text_is = text;
     }
@@ -189,7 +194,10 @@ led_some level all address row a taken o b read own_is b_is with (Some l) is tak
     let now = stand_is address a b b_is in
     let text : l.text ≡ b.text = sym (unless_some (bytes_eq l.text o.text) taken l.text takes)
     ∙ some_is taken b.text (sym with.new ∙ now.text_is) in record {
-      own = o; lead = l; leads = is; together = r.together;
+      own = o;
+      lead = l;
+      leads = is;
+      together = r.together;
       address_is = some_is o.address b.address (sym before.address_is ∙ now.address_is);
       name_is = sym before.name_is ∙ ap string_bytes (sym with.name) ∙ now.name_is;
       caret_is = same_caret l b text (read l r.among) now.caret_is;
@@ -227,10 +235,10 @@ led_each level all (d ∷ addresses) (r ∷ rows) [] (a ∷ after) read within t
 led_each level all (d ∷ addresses) (r ∷ rows) (t ∷ texts) (a ∷ after) read within takes turns b has =
     ⊎_elim
     (λ e. led_row level all d r a t b read (within _ (has_first _ (stands_of addresses rows))) turns.0 e
-      (stand_of d r) refl (first_is _ _ _ _ takes))
+    (stand_of d r) refl (first_is _ _ _ _ takes))
     (λ later. led_each level all addresses rows texts after read
-      (λ x there. within x (has_more _ x (stands_of addresses rows) there)) (rest_is _ _ _ _ takes) turns.1
-      b later)
+    (λ x there. within x (has_more _ x (stands_of addresses rows) there)) (rest_is _ _ _ _ takes) turns.1
+    b later)
     (first_or_rest (stand_of d a) (Some b) (stands_of addresses after) has)
 
 -- the row of before is together with the one of after
@@ -238,12 +246,12 @@ with_own : (level : Option Level) (all : List (Option Required)) (b : Required) 
     → is_together level h.own b ≡ true
 with_own level all b h =
     let rest : (is_same_range h.own.caret h.lead.caret && keeps_level level h.own.caret h.lead.caret) ≡ true
-        = right (is_same_crate h.own h.lead) _ h.together in
+    = right (is_same_crate h.own h.lead) _ h.together in
     subst (λ c. (is_same_crate h.own b && (is_same_range h.own.caret c && keeps_level level h.own.caret c))
-      ≡ true) h.caret_is
+    ≡ true) h.caret_is
     (both _ _
     (both _ _ ((bytes_eq-Decides h.own.name b.name).1 h.name_is)
-      ((bytes_eq-Decides h.own.address b.address).1 h.address_is)) rest)
+    ((bytes_eq-Decides h.own.address b.address).1 h.address_is)) rest)
 
 -- rows that are together after the turns have one text
 pub one_text : (level : Option Level) (addresses : List (Option (List ℕ))) (rows : List Row)
@@ -256,8 +264,8 @@ one_text level addresses rows texts after takes turns a b has_a has_b together =
     let led_a = led_each level all addresses rows texts after read (λ x has. has) takes turns a has_a in
     let led_b = led_each level all addresses rows texts after read (λ x has. has) takes turns b has_b in
     let same : (x : Required) → is_together level led_a.own x ≡ is_together level led_b.own x = λ x.
-      alike level led_a.own a (with_own level all a led_a) x ∙ alike level a b together x
-      ∙ sym (alike level led_b.own b (with_own level all b led_b) x) in
+    alike level led_a.own a (with_own level all a led_a) x ∙ alike level a b together x
+    ∙ sym (alike level led_b.own b (with_own level all b led_b) x) in
     let one : led_a.lead ≡ led_b.lead = some_is led_a.lead led_b.lead
-      (sym led_a.leads ∙ lead_alike level led_a.own led_b.own same None all ∙ led_b.leads) in
+    (sym led_a.leads ∙ lead_alike level led_a.own led_b.own same None all ∙ led_b.leads) in
     sym led_a.text_is ∙ ap (λ x. x.text) one ∙ led_b.text_is

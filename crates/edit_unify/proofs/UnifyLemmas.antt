@@ -68,7 +68,11 @@ led level all o row a taken has turn (Some l) is takes =
     let r = leader_is level o all l is in (
       l.text,
       record {
-        from = l; among = r.among; together = r.together; text_is = refl; highest = r.highest;
+        from = l;
+        among = r.among;
+        together = r.together;
+        text_is = refl;
+        highest = r.highest;
       },
       row_with (bytes_eq l.text o.text) taken l.text row a takes turn,
     )
@@ -108,9 +112,9 @@ unified_each level all (d ∷ addresses) (r ∷ rows) [] after len within takes 
 unified_each level all (d ∷ addresses) (r ∷ rows) (t ∷ texts) [] len within takes turns = absurd turns
 unified_each level all (d ∷ addresses) (r ∷ rows) (t ∷ texts) (a ∷ after) len within takes turns = (
   unified_one level all _ r a t (within _ (has_first _ (stands_of addresses rows)))
-  (first_is _ _ _ _ takes) turns.0,
+      (first_is _ _ _ _ takes) turns.0,
   unified_each level all addresses rows texts after (omega (arith, len))
-  (λ x has. within x (has_more _ x (stands_of addresses rows) has)) (rest_is _ _ _ _ takes) turns.1,
+      (λ x has. within x (has_more _ x (stands_of addresses rows) has)) (rest_is _ _ _ _ takes) turns.1,
 )
 
 -- pairs as they are

@@ -30,8 +30,13 @@ rows-preserved-in_ok-push-2 c =
     let row = c.in-Some.row in
     let yes : is_some row.change ≡ true = search rules in
     let number : c.saturating_add-number.result ≡ count_changes c.rows.yielded + 1 =
-        search (rules, few_changes c.rows.yielded c.rows.row-iterator.rest.items c.args.rows.items
-        c.rows.invariant.rest, c.rows.invariant.number, c.args.rows.small) in
+    search (
+      rules,
+      few_changes c.rows.yielded c.rows.row-iterator.rest.items c.args.rows.items
+          c.rows.invariant.rest,
+      c.rows.invariant.number,
+      c.args.rows.small,
+    ) in
     let at : c.saturating_add-number.result ≡ 0 + count_changes c.rows.yielded + 1 = omega (arith, number) in
     let one : is_chosen c.args.choice.now (0 + count_changes c.rows.yielded + 1) (string_bytes row.name) ≡ true
     = sym (chosen_by c.args.choice.now c.as_slice-items.result.now c.in-Items.items _ _ _ _ c.in-Items.is
@@ -51,13 +56,18 @@ rows-preserved c =
     let row = c.in-Some.row in
     let yes : is_some row.change ≡ true = search rules in
     let number : c.saturating_add-number.result ≡ count_changes c.rows.yielded + 1 =
-        search (rules, few_changes c.rows.yielded c.rows.row-iterator.rest.items c.args.rows.items
-        c.rows.invariant.rest, c.rows.invariant.number, c.args.rows.small) in
+    search (
+      rules,
+      few_changes c.rows.yielded c.rows.row-iterator.rest.items c.args.rows.items
+          c.rows.invariant.rest,
+      c.rows.invariant.number,
+      c.args.rows.small,
+    ) in
     let at : c.saturating_add-number.result ≡ 0 + count_changes c.rows.yielded + 1 = omega (arith, number) in
     let none : is_chosen c.args.choice.now (0 + count_changes c.rows.yielded + 1) (string_bytes row.name)
-        ≡ false = sym (chosen_by c.args.choice.now c.as_slice-items.result.now c.in-Items.items _ _ _ _
-        c.in-Items.is c.as_slice-items.ensures.value at c.as_str.ensures.value) ∙ sym c.is_chosen.ensures
-        ∙ c.if-is_chosen.false in
+    ≡ false = sym (chosen_by c.args.choice.now c.as_slice-items.result.now c.in-Items.items _ _ _ _
+    c.in-Items.is c.as_slice-items.ensures.value at c.as_str.ensures.value) ∙ sym c.is_chosen.ensures
+    ∙ c.if-is_chosen.false in
     record {
       chosen = subst (λ ys. AreChosenFrom c.args.choice.now 0 (c.rows.yielded ++ row ∷ []) ys)
           (sym c.in_ok-push-3.ensures.items)

@@ -38,10 +38,10 @@ returns-clause-rows c =
     let t = YieldsList-end all c.rows.yielded c.rows.row-iterator c.rows.yielded_by
     c.next.result c.next.new.self c.in-None.is c.next.ensures.steps in
     let same : c.rows.yielded ≡ zip c.args.rows.items c.in_ok-texts.texts.items =
-        sym (pairs_same c.rows.yielded) ∙ t.0 in
+    sym (pairs_same c.rows.yielded) ∙ t.0 in
     let addresses = map (option_map string_bytes) c.args.addresses.now in
     let len : length addresses ≡ length c.args.rows.items =
-        length-map c.args.addresses.now (option_map string_bytes) ∙ c.requires in
+    length-map c.args.addresses.now (option_map string_bytes) ∙ c.requires in
     unified_each c.args.level (stands_of addresses c.args.rows.items) addresses c.args.rows.items
     c.in_ok-texts.texts.items c.rows.unified.items len (λ x has. has)
     (c.in_ok-texts.ensures.texts
@@ -57,7 +57,7 @@ returns-clause-one c =
     let t = YieldsList-end all c.rows.yielded c.rows.row-iterator c.rows.yielded_by
     c.next.result c.next.new.self c.in-None.is c.next.ensures.steps in
     let same : c.rows.yielded ≡ zip c.args.rows.items c.in_ok-texts.texts.items =
-        sym (pairs_same c.rows.yielded) ∙ t.0 in
+    sym (pairs_same c.rows.yielded) ∙ t.0 in
     let addresses = map (option_map string_bytes) c.args.addresses.now in
     one_text c.args.level addresses c.args.rows.items
     c.in_ok-texts.texts.items c.rows.unified.items
