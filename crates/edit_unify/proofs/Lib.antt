@@ -1,1 +1,4 @@
+pub mod LeaderLemmas
+pub mod OneTextLemmas
 pub mod StandLemmas
+pub mod UnifyLemmas

@@ -50,26 +50,30 @@ pub record IsHighest (level : Option Level) (own : Required) (stands : List (Opt
   pub highest : (other : Required) → Contains stands (Some other) → is_together level own other ≡ true
       → is_higher other.caret from.caret ≡ false
 
+-- a row as it was where it has the text already, else with this one (own)
+abbrev pub IsRowWith : Bool → List ℕ → Row → Row → Type 0
+IsRowWith true text row after = after ≡ row
+IsRowWith false text row after = IsWithText text row after
+
 -- a row that takes part has the highest requirement of those together with it, and is as it was where that
 -- is its own; one that takes no part stays
 abbrev pub IsUnified : Option Level → List (Option Required) → Option Required → Row → Row → Type 0
 IsUnified level stands None row after = after ≡ row
 IsUnified level stands (Some own) row after =
     (text : List ℕ) × IsHighest level own stands text × IsRowWith (bytes_eq text own.text) text row after
-  where
-    IsRowWith : Bool → List ℕ → Row → Row → Type 0
-    IsRowWith true text row after = after ≡ row
-    IsRowWith false text row after = IsWithText text row after
+
+-- each row unified with all those that are together with it, by what it requires itself (own)
+abbrev pub AreEach : Option Level → List (Option Required) → List (Option Required) → List Row → List Row
+    → Type 0
+AreEach level stands [] [] [] = ⊤
+AreEach level stands (own ∷ owns) (row ∷ rows) (a ∷ after) =
+    IsUnified level stands own row a × AreEach level stands owns rows after
+AreEach level stands owns rows after = ⊥
 
 -- one row for each, in order: unified with those that are together with it
 abbrev pub AreUnified : Option Level → List (Option (List ℕ)) → List Row → List Row → Type 0
-AreUnified level addresses rows after = AreEach (stands_of addresses rows) (stands_of addresses rows) rows after
-  where
-    AreEach : List (Option Required) → List (Option Required) → List Row → List Row → Type 0
-    AreEach stands [] [] [] = ⊤
-    AreEach stands (own ∷ more) (row ∷ rows) (a ∷ after) =
-        IsUnified level stands own row a × AreEach stands more rows after
-    AreEach stands owns rows after = ⊥
+AreUnified level addresses rows after =
+    AreEach level (stands_of addresses rows) (stands_of addresses rows) rows after
 
 -- rows that require one crate of one registry in one range, within a level of each other, have one text
 abbrev pub HasOneText : Option Level → List (Option (List ℕ)) → List Row → Type 0

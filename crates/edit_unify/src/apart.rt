@@ -1,6 +1,8 @@
 //! The crates that rows require in more than one compatible range.
-ghost use Rattle.std.specs.Prelude.{◌≡◌, IfErr, IfOk, OnOk, map, option_map, string_bytes};
+ghost use Rattle.std.specs.Prelude.{◌≡◌, ℕ, List, true, if◌then◌else◌, IfErr, IfOk, OnOk, map, option_map, string_bytes};
+ghost use Rattle.std.specs.BTreeSet.{contains_text};
 ghost use Rattle.std.specs.List.{list_any};
+ghost use Rattle.std.specs.Str.{bytes_eq};
 ghost use Rattle.edit_base.specs.Errors.{IsMemory};
 ghost use Rattle.edit_unify.specs.Apart.{AreNames, apart_names, is_apart, is_apart_from};
 ghost use Rattle.edit_unify.specs.Stands.{stand_view, stands_of};
@@ -29,11 +31,11 @@ fn is_apart(own: &Stand<'_>, stands: &[Option<Stand<'_>>]) -> bool
     stands.iter().any(|other| is_apart_from(own, *other))
 }
 
-/// Adds a name to a set, unless it has it.
-fn add_name(alloc: Global, names: &mut BTreeSet<String>, name: &str) -> Result<(), AllocError> {
-    if names.contains(name) {
-        return Ok(());
-    }
+/// Adds a name to a set.
+fn add_name(alloc: Global, names: &mut BTreeSet<String>, name: &str) -> Result<(), AllocError>
+    ensures ok { OnOk result ((q : List ℕ) → contains_text names.new q
+        ≡ (if bytes_eq name.now q then true else contains_text names.old q)) }
+{
     let name = String::from_str(alloc, name)?;
     names.insert(name)?;
     Ok(())
