@@ -11,8 +11,8 @@ use std::io::{IsTerminal, LineWriter, Stderr, Stdout, Write};
 /// A line-buffered stream of messages; for a terminal, characters that it would interpret are escaped.
 pub(crate) type Stream<W> = Either<TerminalWriter<LineWriter<W>>, LineWriter<W>>;
 
-/// A line-buffered stream of a report; for a terminal, characters that it would interpret are escaped, columns
-/// are aligned, and parts are colored where that is wanted.
+/// A line-buffered stream of a report; for a terminal, characters that it would interpret are escaped and
+/// columns are aligned, and parts are colored where that is wanted.
 pub(crate) type ReportStream<W> = Either<ReportWriter<LineWriter<W>>, LineWriter<W>>;
 
 /// The values of the options that say how a report is printed, where they are given.

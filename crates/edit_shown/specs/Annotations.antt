@@ -16,8 +16,8 @@ use Rattle.edit_shown.specs.RequirementLines.{requirement_line}
 
 -- ---- escapes
 
--- a character of a message, where `%` and line ends would end or change the command (GitHub's actions/toolkit,
--- packages/core/src/command.ts, escapeData)
+-- a character of a message, where `%` and line ends would end or change the command (GitHub's
+-- actions/toolkit, packages/core/src/command.ts, escapeData)
 abbrev pub data_char : ℕ → List ℕ
 data_char c =
     if c == 37 then codes "%25"

@@ -199,7 +199,7 @@ raised-within l old t v valid e h w =
     ∙ raised-numbers l f.0 g.0 v cs (floor-is cs f.0 f.1) (floor-is (raised_all v cs) g.0 g.1) within w
     ∙ ap (λ (x : Option Parts). has_numbers l x w) (sym old_floor)
 
--- so these versions are the same of each list
+-- so the old and the new requirement have the same versions of a list within the level
 pub raised-versions : (l : Option Level) (old t : List ℕ) (v : Parts) (all : List Parts) → IsVersion v
     → upgrade_of old v ≡ Text t → is_within l old v ≡ true → versions_within l t all ≡ versions_within l old all
 raised-versions l old t v all valid e h =
