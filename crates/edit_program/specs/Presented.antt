@@ -34,7 +34,8 @@ format_of_options command format diff =
 
 -- a text says when reports are colored (as cargo has it)
 abbrev pub is_color : Text → Bool
-is_color text = bytes_eq text (codes "auto") || (bytes_eq text (codes "always") || bytes_eq text (codes "never"))
+is_color text =
+    bytes_eq text (codes "auto") || (bytes_eq text (codes "always") || bytes_eq text (codes "never"))
 
 -- `--color` is not given, or has one of its values; it changes nothing of what is printed here
 abbrev pub has_color : List Row → Bool
