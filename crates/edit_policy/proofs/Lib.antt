@@ -1,3 +1,4 @@
+mod CrateLemmas
 mod DayLemmas
 mod FaultLemmas
 mod FormLemmas

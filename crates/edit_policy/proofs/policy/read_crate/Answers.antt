@@ -1,11 +1,13 @@
 use Rattle.std.proofs.Common.{ap, codes, refl}
 use Rattle.std.proofs.lemmas.Result.{err_from_is_err_and}
+use Rattle.edit_document.specs.ItemViews.{document_of}
 use Rattle.edit_tree.specs.DocumentViews.{tree_of}
 use Rattle.edit_policy.specs.Faults.{InCrates, Only, crate_table}
 use Rattle.edit_policy.specs.Policies.{member}
 use Rattle.edit_policy.specs.PolicyTables.{place_in, tree_in}
 use Rattle.edit_policy.specs.declared.keys.Expected.TheVariants as expected
 use Rattle.edit_policy.specs.declared.keys.KeySet.TheVariants.{OfCrate}
+use Rattle.edit_policy.proofs.CrateLemmas.{absent_crate, crate_at}
 use Rattle.edit_policy.proofs.FaultLemmas.{crate_fault, fault_within, key_fault}
 use Rattle.edit_policy.proofs.policy.read_crate.Goals as goal
 
@@ -54,3 +56,18 @@ returns-in_err-reason-clause-error c =
     (ap tree_of found.document) found.at
     (key_fault OfCrate (tree_in table) (place_in table) (codes "reason") expected.Text _ refl
     c.in_err-reason.ensures.error))
+
+pub returns-in_default-clause-ok : goal.returns-in_default-clause-ok
+returns-in_default-clause-ok c =
+    let crates = c.args.crates.now in
+    let none = rw c.in_default.is at c.in_ok-table.ensures.found in
+    let said = c.in_ok-unheld_crate.ensures in
+    absent_crate (tree_in crates) (place_in crates) c.args.name.now _ none said.0 said.1 said.2
+
+pub returns-clause-ok : goal.returns-clause-ok
+returns-clause-ok c =
+    let crates = c.args.crates.now in
+    let found = rw c.in-Some.is at c.in_ok-table.ensures.found in
+    crate_at (document_of crates.item) (place_in crates) c.args.name.now c.in-Some.table _ found
+    c.check_keys.ensures.there c.in_ok-check_keys.ensures.ok c.in_ok-hold.ensures.ok c.in_ok-hold.ensures.text
+    c.in_ok-reason.ensures.ok c.in_ok-name.ensures.ok

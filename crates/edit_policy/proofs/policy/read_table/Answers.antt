@@ -1,11 +1,13 @@
 use Rattle.std.proofs.Common.{codes, refl}
 use Rattle.std.proofs.lemmas.Result.{err_from_is_err_and}
+use Rattle.edit_document.specs.ItemViews.{view_of}
 use Rattle.edit_policy.specs.Faults.{AtKeys, InPolicy, InTexts, excluded, own_keys}
 use Rattle.edit_policy.specs.Policies.{member}
 use Rattle.edit_policy.specs.PolicyTables.{place_in, tree_in}
 use Rattle.edit_policy.specs.declared.keys.Expected.TheVariants as expected
 use Rattle.edit_policy.specs.declared.keys.KeySet.TheVariants.{OfPolicy}
 use Rattle.edit_policy.proofs.FaultLemmas.{fault_within, own_fault}
+use Rattle.edit_policy.proofs.PolicyLemmas.{present_policy}
 use Rattle.edit_policy.proofs.policy.read_table.Goals as goal
 
 pub returns-in_err-check_keys-clause-error : goal.returns-in_err-check_keys-clause-error
@@ -87,3 +89,12 @@ returns-in_err-exclude-clause-error c =
     rw (p.1, p.2)
     (fault_within (InTexts (member (place_in table) (codes "exclude"))) (InPolicy (place_in table))
     (tree_in table) _ (λ q x k. excluded k) c.in_err-exclude.ensures.error)
+
+pub returns-clause-ok : goal.returns-clause-ok
+returns-clause-ok c =
+    let table = c.args.table.now in
+    present_policy (tree_in table) (place_in table) (view_of table.item) _ c.check_keys.ensures.there
+    c.in_ok-check_keys.ensures.ok c.in_ok-exclude.ensures.ok c.in_ok-compatible.ensures.ok
+    c.in_ok-incompatible.ensures.ok c.in_ok-pinned.ensures.ok c.in_ok-never_lower.ensures.ok
+    c.in_ok-level.ensures.ok c.in_ok-min_age.ensures.ok c.in_ok-rust_version.ensures.ok
+    c.in_ok-crates.ensures.ok

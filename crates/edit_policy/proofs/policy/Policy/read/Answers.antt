@@ -15,9 +15,9 @@ returns-in_err-table-clause-error c =
     (fault_within (Only place Table) (InPolicy place) (tree_of c.args.document.now) _ (λ q x o. own_table o)
     c.in_err-table.ensures.error)
 
-pub returns-in-None-clause-policy : goal.returns-in-None-clause-policy
-returns-in-None-clause-policy c =
-    let none = rw c.in-None.is at c.in_ok-table.ensures.found in
+pub returns-in_default-clause-policy : goal.returns-in_default-clause-policy
+returns-in_default-clause-policy c =
+    let none = rw c.in_default.is at c.in_ok-table.ensures.found in
     absent_policy (tree_of c.args.document.now) (place_view c.args.place.now) c.empty.result none
     c.empty.ensures
 
