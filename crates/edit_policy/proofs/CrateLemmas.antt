@@ -1,8 +1,8 @@
 -- What a policy says of crates, in the tables that were found for them, and where there are none.
-use Rattle.std.proofs.Common.{◌≡◌, ◌∙◌, [], List, None, Option, Some, ap, codes, map, option_map, string_bytes, subst, sym, true, refl, ℕ}
+use Rattle.std.proofs.Common.{◌≡◌, ◌∙◌, [], List, None, Option, Some, ap, codes, option_map, string_bytes, subst, sym, true, refl, ℕ}
 use Rattle.std.specs.List.{AllZip}
 use Rattle.std.specs.Option.{option_map_or}
-use Rattle.edit_document.specs.ItemViews.{document_of, view_of}
+use Rattle.edit_document.specs.ItemViews.{view_of}
 use Rattle.edit_document.specs.Items.{is_tabular, names_in, string_in, viewed}
 use Rattle.edit_tree.specs.Assertions.{Place}
 use Rattle.edit_tree.specs.DocumentViews.{DocumentViews, tree_of}
@@ -83,5 +83,6 @@ crates_at d place table cs at each =
     let own = place_in table in
     moved (λ w q. AreCratePolicies (tree_of w) q (tree_of w q) cs) d place table at (record {
       is_table = tabular_fit (t own) table.tabular;
-      each = subst (λ (names : List (List ℕ)). AllZip (IsCratePolicy t own) names cs) (names_viewed (t own)) each;
+      each = subst (λ (names : List (List ℕ)). AllZip (IsCratePolicy t own) names cs)
+          (names_viewed (t own)) each;
     })

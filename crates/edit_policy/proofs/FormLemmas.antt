@@ -1,10 +1,9 @@
 -- A policy of a document, by the form of its text.
-use Rattle.std.proofs.Common.{◌≡◌, subst}
+use Rattle.std.proofs.Common.{subst}
 use Rattle.std.proofs.Math.Path.{fun_ext}
 use Rattle.edit_syntax.specs.Grammar.{Text}
 use Rattle.edit_tree.specs.Assertions.{IsDocument}
 use Rattle.edit_tree.specs.DocumentViews.{DocumentViews, ShowsTree, tree_of}
-use Rattle.edit_tree.specs.Tree.{view_at}
 use Rattle.edit_policy.specs.Faults.{InPolicy, IsFault}
 use Rattle.edit_policy.specs.Manifests.{IsManifestFault, IsManifestPolicy, of_document}
 use Rattle.edit_policy.specs.Policies.{IsPolicy, policy_place}

@@ -62,11 +62,12 @@ no_keys keys t table none = record {
 }
 
 -- no table of crates says nothing of crates
-pub no_crates : (t : Tree) (crates : Place) (item : Option View) (cs : List CratePolicy) → item ≡ None → cs ≡ []
-    → AreCratePolicies t crates item cs
+pub no_crates : (t : Tree) (crates : Place) (item : Option View) (cs : List CratePolicy) → item ≡ None
+    → cs ≡ [] → AreCratePolicies t crates item cs
 no_crates t crates item cs none is = record {
   is_table = ap (is_fit Table) none;
-  each = subst (λ (xs : List CratePolicy). AllZip (IsCratePolicy t crates) (option_map_or names_in item []) xs)
+  each = subst
+      (λ (xs : List CratePolicy). AllZip (IsCratePolicy t crates) (option_map_or names_in item []) xs)
       (sym is)
       (subst (λ (o : Option View). AllZip (IsCratePolicy t crates) (option_map_or names_in o []) [])
       (sym none) tt);
@@ -100,7 +101,8 @@ present_policy t table v p there keys exclude compatible incompatible pinned low
       level = value_under (by_text level_of) t table (codes "level") v _ there level;
       min_age = value_under days_in t table (codes "min-age") v _ there age;
       rust_version = value_under (by_text rust_of) t table (codes "rust-version") v _ there rust;
-      crates = subst (λ (o : Option View). AreCratePolicies t (member table (codes "crates")) o p.crates.items)
+      crates = subst
+          (λ (o : Option View). AreCratePolicies t (member table (codes "crates")) o p.crates.items)
           (sym (under (codes "crates"))) crates;
     }
 
