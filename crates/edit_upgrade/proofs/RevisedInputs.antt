@@ -201,18 +201,18 @@ rest_addresses : {inputs : List Input} {configs : List (Vec Config)} {i : ℕ} {
     {here : List Config} (more : List (Option (List ℕ))) → IsInputAt inputs configs i input own here
     → HasRowAddresses (drop i inputs) (drop i configs) more
     → HasRowAddresses (input ∷ drop (i + 1) inputs) (own ∷ drop (i + 1) configs) more
-rest_addresses {inputs} {configs} {i} {input} {own} more at has =
+rest_addresses {inputs} {configs} {i} {input} {own} more place has =
     subst (λ (cs : List (Vec Config)). HasRowAddresses (input ∷ drop (i + 1) inputs) cs more)
-    (rest_cons configs i own at.own_low at.own_is)
-    (subst (λ (xs : List Input). HasRowAddresses xs (drop i configs) more) (rest_cons inputs i input at.low at.is) has)
+    (rest_cons configs i own place.own_low place.own_is)
+    (subst (λ (xs : List Input). HasRowAddresses xs (drop i configs) more) (rest_cons inputs i input place.low place.is) has)
 
 -- the next input is a manifest
 pub next_manifest : {inputs : List Input} {configs : List (Vec Config)} {i : ℕ} {input : Input}
     {own : Vec Config} {here : List Config} (found : List (Option (List ℕ)))
     → IsAddressedUpTo inputs configs i found → IsInputAt inputs configs i input own here
     → IsManifest input.bytes.items
-next_manifest found up_to at =
-    let first = (rest_addresses up_to.more at up_to.rest).3 in (first.form, first.manifest)
+next_manifest found up_to place =
+    let first = (rest_addresses up_to.more place up_to.rest).3 in (first.form, first.manifest)
 
 each_resolved : (configs : List Config) (es : List RowEntry) (addresses : List (Option (List ℕ)))
     → AllZip (IsAddressOf configs) es addresses → All (HasItsAddress configs) es
@@ -226,12 +226,12 @@ pub next_resolved : {inputs : List Input} {configs : List (Vec Config)} {i : ℕ
     {own : Vec Config} {here : List Config} (found : List (Option (List ℕ))) (es : List RowEntry)
     → IsAddressedUpTo inputs configs i found → IsInputAt inputs configs i input own here
     → AreRowEntries input.bytes.items es → All (HasItsAddress here) es
-next_resolved {inputs} {configs} {i} {input} {own} {here} found es up_to at are =
-    let first = (rest_addresses up_to.more at up_to.rest).3 in
-    subst (λ (cs : List Config). All (HasItsAddress cs) es) (sym at.here_is)
+next_resolved {inputs} {configs} {i} {input} {own} {here} found es up_to place are =
+    let first = (rest_addresses up_to.more place up_to.rest).3 in
+    subst (λ (cs : List Config). All (HasItsAddress cs) es) (sym place.here_is)
     (subst (All (HasItsAddress own.items)) (seen-in input.bytes.items es are first.form first.manifest)
     (each_resolved own.items (row_entries (view_at first.form))
-    (rest_addresses up_to.more at up_to.rest).0 first.each))
+    (rest_addresses up_to.more place up_to.rest).0 first.each))
 
 -- one more input
 pub addresses_next : {inputs : List Input} {configs : List (Vec Config)} {i : ℕ} {input : Input}
@@ -239,13 +239,13 @@ pub addresses_next : {inputs : List Input} {configs : List (Vec Config)} {i : �
     → IsAddressedUpTo inputs configs i found → IsInputAt inputs configs i input own here
     → AreRowEntries input.bytes.items es → AddsAddresses here es found new
     → IsAddressedUpTo inputs configs (i + 1) new
-addresses_next {inputs} {configs} {i} {input} {own} {here} found new es up_to at are adds =
-    let rest = rest_addresses up_to.more at up_to.rest in
+addresses_next {inputs} {configs} {i} {input} {own} {here} found new es up_to place are adds =
+    let rest = rest_addresses up_to.more place up_to.rest in
     let first : AreAddressesOf own.items input.bytes.items adds.0 = record {
       form = are.form;
       manifest = are.manifest;
       each = subst (λ (xs : List RowEntry). AllZip (IsAddressOf own.items) xs adds.0) are.are
-          (subst (λ (cs : List Config). AllZip (IsAddressOf cs) es adds.0) at.here_is adds.2);
+          (subst (λ (cs : List Config). AllZip (IsAddressOf cs) es adds.0) place.here_is adds.2);
     } in
     record {
       more = rest.1;
@@ -255,9 +255,9 @@ addresses_next {inputs} {configs} {i} {input} {own} {here} found new es up_to at
           (sym (append_assoc found adds.0 later) ∙ ap (λ (xs : List (Option (List ℕ))). xs ++ later) (sym adds.1))
           (up_to.then_all (adds.0 ++ later)
           (subst (λ (xs : List Input). HasRowAddresses xs (drop i configs) (adds.0 ++ later))
-          (sym (rest_cons inputs i input at.low at.is))
+          (sym (rest_cons inputs i input place.low place.is))
           (subst (λ (cs : List (Vec Config)). HasRowAddresses (input ∷ drop (i + 1) inputs) cs (adds.0 ++ later))
-          (sym (rest_cons configs i own at.own_low at.own_is)) (adds.0, later, refl, first, has))));
+          (sym (rest_cons configs i own place.own_low place.own_is)) (adds.0, later, refl, first, has))));
     }
 
 -- behind the last input

@@ -17,13 +17,13 @@ inputs-init c = record {
       (map (option_map string_bytes) c.new-found.result.items) c.requires.resolved.0
       (ap (map (option_map string_bytes)) c.new-found.ensures.items) c.requires.resolved.1;
   caches = none-cached c.args.lists.now c.new-caches.result c.new-caches.ensures.empty;
+  long = chosen-length c.args.lists.now c.args.which.now c.requires.lists ∙ c.requires.configurations;
 }
 
 pub input_entries-requires : goal.input_entries-requires
 input_entries-requires c =
     let configs = chosen_lists c.args.lists.now c.args.which.now in
-    let long : length configs ≡ length c.args.inputs.now =
-    chosen-length c.args.lists.now c.args.which.now c.requires.lists ∙ c.requires.configurations in
+    let long : length configs ≡ length c.args.inputs.now = c.inputs.invariant.long in
     record {
       document = given-at c.args.inputs.now c.args.documents.now c.inputs.i c.index-inputs-i.result _
           c.requires.documents c.inputs-test.true c.index-inputs-i.is c.document_at-document.ensures;
@@ -38,8 +38,7 @@ input_entries-requires c =
 pub push_addresses-requires : goal.push_addresses-requires
 push_addresses-requires c =
     let configs = chosen_lists c.args.lists.now c.args.which.now in
-    let long : length configs ≡ length c.args.inputs.now =
-    chosen-length c.args.lists.now c.args.which.now c.requires.lists ∙ c.requires.configurations in
+    let long : length configs ≡ length c.args.inputs.now = c.inputs.invariant.long in
     record {
       addresses = input-addresses c.args.inputs.now c.args.lists.now configs c.inputs.i c.list_index-list.result
           c.index-inputs-i.result c.take_addresses-addresses.result c.inputs-test.true long c.index-inputs-i.is
@@ -66,8 +65,7 @@ keep_addresses-requires c = record {
 pub inputs-preserved : goal.inputs-preserved
 inputs-preserved c =
     let configs = chosen_lists c.args.lists.now c.args.which.now in
-    let long : length configs ≡ length c.args.inputs.now =
-    chosen-length c.args.lists.now c.args.which.now c.requires.lists ∙ c.requires.configurations in
+    let long : length configs ≡ length c.args.inputs.now = c.inputs.invariant.long in
     record {
       up_to = addresses_next (map (option_map string_bytes) c.inputs.found.items)
           (map (option_map string_bytes) c.push_addresses.new.found.items)
@@ -80,6 +78,7 @@ inputs-preserved c =
           (sym c.deref.ensures.value) c.in_ok-entries.ensures.entries)
           c.in_ok-push_addresses.ensures.found;
       caches = c.in_ok-keep_addresses.ensures.caches;
+      long = long;
     }
 
 pub returns-clause-addresses : goal.returns-clause-addresses
