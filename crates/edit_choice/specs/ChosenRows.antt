@@ -54,7 +54,8 @@ has_change name rows = list_any (is_change_of name) rows
 
 -- the text of an item that chooses a row which is not there
 abbrev pub missing_text : List Row → RowItem → Option (List ℕ)
-missing_text rows (item.Numbers first last) = if nat_le last (count_changes rows) then None else Some (decimal last)
+missing_text rows (item.Numbers first last) =
+    if nat_le last (count_changes rows) then None else Some (decimal last)
 missing_text rows (item.Name name) = if has_change name.now rows then None else Some name.now
 
 -- the texts of the items that choose a row which is not there, in order

@@ -1,3 +1,4 @@
+pub mod ApartLemmas
 pub mod LeaderLemmas
 pub mod OneTextLemmas
 pub mod StandLemmas

@@ -32,15 +32,16 @@ is_left_out other = false
 -- the requirement with this text, where it is one caret comparator without a pre-release
 abbrev pub required : List ℕ → List ℕ → List ℕ → Option Required
 required address name text =
-    option_map (λ caret. record { address = address; name = name; caret = caret; text = text }) (caret_of text)
+    option_map (λ caret. record { address = address; name = name; caret = caret; text = text })
+    (caret_of text)
 
 -- what a row requires after the plan, of the registry with this address; none where it has no registry or no
 -- requirement, is left out, or its requirement has another form
 abbrev pub stand_of : Option (List ℕ) → Row → Option Required
 stand_of address row =
     if is_left_out row.reason then None
-    else option_and_then (λ a. option_and_then (λ text. required a (string_bytes row.name) (string_bytes text))
-    row.new) address
+    else option_and_then (λ a. option_and_then
+    (λ text. required a (string_bytes row.name) (string_bytes text)) row.new) address
 
 -- what each row requires, with the addresses of their registries
 abbrev pub stands_of : List (Option (List ℕ)) → List Row → List (Option Required)
@@ -53,4 +54,5 @@ is_same_crate a b = bytes_eq a.name b.name && bytes_eq a.address b.address
 
 -- two rows require one crate of one registry in one compatible range, within a level of each other
 abbrev pub is_together : Option Level → Required → Required → Bool
-is_together level a b = is_same_crate a b && (is_same_range a.caret b.caret && keeps_level level a.caret b.caret)
+is_together level a b =
+    is_same_crate a b && (is_same_range a.caret b.caret && keeps_level level a.caret b.caret)

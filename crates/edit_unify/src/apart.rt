@@ -4,7 +4,7 @@ ghost use Rattle.std.specs.BTreeSet.{contains_text};
 ghost use Rattle.std.specs.List.{list_any};
 ghost use Rattle.std.specs.Str.{bytes_eq};
 ghost use Rattle.edit_base.specs.Errors.{IsMemory};
-ghost use Rattle.edit_unify.specs.Apart.{AreNames, apart_names, is_apart, is_apart_from};
+ghost use Rattle.edit_unify.specs.Apart.{AreNames, apart_name, apart_names, is_apart, is_apart_from};
 ghost use Rattle.edit_unify.specs.Stands.{stand_view, stands_of};
 
 use crate::ranges::is_same_range;
@@ -31,6 +31,23 @@ fn is_apart(own: &Stand<'_>, stands: &[Option<Stand<'_>>]) -> bool
     stands.iter().any(|other| is_apart_from(own, *other))
 }
 
+/// The name of the crate of a row, where another row requires it in another compatible range.
+fn apart_name<'a>(own: Option<Stand<'a>>, stands: &[Option<Stand<'_>>]) -> Option<&'a str>
+    ensures { option_map (λ name. name.now) result
+        ≡ apart_name (map (option_map stand_view) stands.now) (option_map stand_view own.entry) }
+{
+    match own {
+        Some(own) => {
+            if is_apart(&own, stands) {
+                Some(own.name)
+            } else {
+                None
+            }
+        }
+        None => None,
+    }
+}
+
 /// Adds a name to a set.
 fn add_name(alloc: Global, names: &mut BTreeSet<String>, name: &str) -> Result<(), AllocError>
     ensures ok { OnOk result ((q : List ℕ) → contains_text names.new q
@@ -55,10 +72,8 @@ pub fn apart_names(
     let stands = stands_of(alloc, rows, addresses)?;
     let mut names = BTreeSet::new(alloc);
     'stands: for own in &stands {
-        if let Some(own) = own {
-            if is_apart(own, &stands) {
-                add_name(alloc, &mut names, own.name)?;
-            }
+        if let Some(name) = apart_name(*own, &stands) {
+            add_name(alloc, &mut names, name)?;
         }
     }
     let names = names.into_iter().collect(alloc)?;

@@ -1,7 +1,7 @@
 -- Plans whose rows are revised after the decisions for single entries.
-use Rattle.std.specs.Prelude.{◌≡◌, ◌≤◌, ◌==◌, ℕ, List, [], ◌∷◌, ◌++◌, Bool, Option, Some, None, IfSome, filter, length, map, not, option_map, slice_get, take}
+use Rattle.std.specs.Prelude.{◌≡◌, ◌≤◌, ◌+◌, ℕ, List, [], ◌∷◌, ◌++◌, All, IsUtf8, Option, Some, None, length, map, take}
 use Rattle.std.specs.Global.{Vec}
-use Rattle.std.specs.List.{AllZip, flat_map}
+use Rattle.std.specs.List.{AllZip}
 use Rattle.edit_syntax.specs.Grammar.{Text}
 use Rattle.edit_tree.specs.Assertions.{IsDocument}
 use Rattle.edit_tree.specs.DocumentViews.{DocumentViews, ShowsTree}
@@ -14,15 +14,18 @@ use Rattle.edit_sources.specs.Configured.{HasAddress}
 use Rattle.edit_sources.specs.declared.config.Config.{Config}
 use Rattle.url.specs.Parts as url
 use Rattle.url.specs.Parts.{serialize}
-use Rattle.edit_upgrade.specs.Drafts.{lines_on, outputs_on}
-use Rattle.edit_upgrade.specs.Inputs.{below, output_path}
+use Rattle.edit_upgrade.specs.Drafts.{lines_on}
 use Rattle.edit_upgrade.specs.Lines.{line_of}
 use Rattle.edit_upgrade.specs.Outputs.{HasOutputs}
 use Rattle.edit_upgrade.specs.Records.{RowEntry, at_folder, at_registry, at_repository, row_entries}
+use Rattle.edit_upgrade.specs.Rows.{Line}
 
 -- the document has these entries, each of which gets a row (own)
-abbrev pub HasRowEach : DocumentViews → List RowEntry → Type 0
-HasRowEach d es = (form : Text) × ShowsTree d form × (es ≡ row_entries (view_at form))
+pub record HasRowEach (d : DocumentViews) (es : List RowEntry) : Type 0 where
+  pub form : Text
+  pub manifest : IsDocument d.bytes form
+  pub tree : ShowsTree d form
+  pub are : es ≡ row_entries (view_at form)
 
 -- the address of an entry's registry; none for a git or path dependency
 pub data IsAddressOf (configs : List Config) (e : RowEntry) : Option (List ℕ) → Type 0 where
@@ -30,6 +33,16 @@ pub data IsAddressOf (configs : List Config) (e : RowEntry) : Option (List ℕ) 
       → HasAddress configs named address → IsAddressOf configs e (Some (serialize address))
   repository : e.source ≡ at_repository → IsAddressOf configs e None
   folder : e.source ≡ at_folder → IsAddressOf configs e None
+
+-- a registry, by its name where one is given, has an address (own)
+abbrev pub IsResolved : List Config → Option (List ℕ) → Type 0
+IsResolved configs named = (address : url.Parts) × HasAddress configs named address
+
+-- the text is the address of a registry (own)
+pub record IsAddressText (configs : List Config) (named : Option (List ℕ)) (text : List ℕ) : Type 0 where
+  pub address : url.Parts
+  pub has : HasAddress configs named address
+  pub is : text ≡ serialize address
 
 -- the registry of an entry has an address
 abbrev pub HasItsAddress : List Config → RowEntry → Type 0
@@ -41,15 +54,13 @@ abbrev pub AddsAddresses : List Config → List RowEntry → List (Option (List 
 AddsAddresses configs es old new =
     (more : List (Option (List ℕ))) × (new ≡ old ++ more) × AllZip (IsAddressOf configs) es more
 
+-- where no documents are given, the bytes of each input are UTF-8 (own)
+abbrev pub AreUtf8 : List Input → List DocumentViews → Type 0
+AreUtf8 inputs documents = documents ≡ [] → All (λ x. IsUtf8 x.bytes.items) inputs
+
 -- the bytes are a manifest
 abbrev pub IsManifest : List ℕ → Type 0
 IsManifest bytes = (form : Text) × IsDocument bytes form
-
--- the bytes are a manifest, and these are its entries that get a row
-pub record AreEntriesOf (bytes : List ℕ) (es : List RowEntry) : Type 0 where
-  pub form : Text
-  pub manifest : IsDocument bytes form
-  pub are : es ≡ row_entries (view_at form)
 
 -- the bytes are a manifest, and these are the addresses of its entries
 pub record AreAddressesOf (configs : List Config) (bytes : List ℕ) (addresses : List (Option (List ℕ)))
@@ -78,24 +89,39 @@ pub record IsLongEnough (bytes : List ℕ) (count : ℕ) : Type 0 where
   pub manifest : IsDocument bytes form
   pub long : count ≡ length (row_entries (view_at form))
 
+-- the rows of these inputs, of which the first has this number: in their order, for each input a row for each
+-- of its entries (own)
+abbrev pub AreRowsFrom : ℕ → List Input → List Row → Type 0
+AreRowsFrom i [] rows = rows ≡ []
+AreRowsFrom i (input ∷ inputs) rows =
+    (own : List Row) × (later : List Row) × (rows ≡ own ++ later) × All (λ row. row.input ≡ i) own
+    × IsLongEnough input.bytes.items (length own) × AreRowsFrom (i + 1) inputs later
+
 -- there is a row for each entry of the inputs, in their order
-pub record AreRowsOf (inputs : List Input) (rows : List Row) : Type 0 where
-  pub each : (i : ℕ) → IfSome (slice_get inputs i)
-      (λ input. IsLongEnough input.bytes.items (length (lines_on i (map line_of rows))))
-  pub in_order : map line_of rows ≡ flat_map (λ i. lines_on i (map line_of rows)) (below (length inputs))
+abbrev pub AreRowsOf : List Input → List Row → Type 0
+AreRowsOf inputs rows = AreRowsFrom 0 inputs rows
+
+-- the outputs of these inputs, of which the first has this number: in their order, for each input those of
+-- its rows among these (own)
+abbrev pub AreOutputsFrom : ℕ → List Input → List Line → List Output → Type 0
+AreOutputsFrom i [] lines outputs = outputs ≡ []
+AreOutputsFrom i (input ∷ inputs) lines outputs =
+    (own : List Output) × (later : List Output) × (outputs ≡ own ++ later)
+    × HasOutputs (path_of input) input.bytes.items (lines_on i lines) own
+    × AreOutputsFrom (i + 1) inputs lines later
 
 -- the outputs of inputs with these rows: those of the rows of each input, in the order of the inputs
-pub record HasRevisedOutputs (inputs : List Input) (rows : List Row) (outputs : List Output) : Type 0 where
-  pub each : (i : ℕ) → IfSome (slice_get inputs i) (λ input. HasOutputs (path_of input) input.bytes.items
-      (lines_on i (map line_of rows)) (outputs_on (path_of input) outputs))
-  pub in_order : map output_path outputs
-      ≡ filter (λ path. not (length (outputs_on path outputs) == 0)) (map path_of inputs)
+abbrev pub HasRevisedOutputs : List Input → List Row → List Output → Type 0
+HasRevisedOutputs inputs rows outputs = AreOutputsFrom 0 inputs (map line_of rows) outputs
 
 -- there are rows for the entries of a manifest, and perhaps more (own)
 abbrev pub HasEnoughRows : List ℕ → List Row → Type 0
 HasEnoughRows bytes rows = (count : ℕ) × IsLongEnough bytes count × (count ≤ length rows)
 
--- the first rows, as many as this number, are those of the entries of an input, and these are its outputs (own)
-pub record AreFirstOutputs (input : Input) (rows : List Row) (outputs : List Output) (count : ℕ) : Type 0 where
+-- the first rows, as many as this number, are those of the entries of an input, and these are its outputs
+-- (own)
+pub record AreFirstOutputs (input : Input) (rows : List Row) (outputs : List Output) (count : ℕ)
+    : Type 0 where
   pub long : IsLongEnough input.bytes.items count
+  pub within : count ≤ length rows
   pub are : HasOutputs (path_of input) input.bytes.items (map line_of (take count rows)) outputs

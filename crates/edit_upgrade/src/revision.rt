@@ -1,12 +1,14 @@
 //! Plans whose rows are revised after the decisions for single entries.
-ghost use Rattle.std.specs.Prelude.{◌≡◌, All, IfErr, IfOk, IfSome, OnOk, length, map, option_copied, option_map, string_bytes};
+ghost use Rattle.std.specs.Prelude.{◌≡◌, All, IfErr, IfOk, IfSome, IsUtf8, None, OnOk, length, map, option_copied, option_map, string_bytes};
 ghost use Rattle.edit_base.specs.Errors.{IsMemory};
+ghost use Rattle.edit_sources.specs.Configured.{given};
 ghost use Rattle.edit_upgrade.specs.Addresses.{AreAddresses};
 ghost use Rattle.edit_upgrade.specs.ConfigLists.{AreIndices, chosen_lists};
 ghost use Rattle.edit_upgrade.specs.Found.{row_entry_view};
-ghost use Rattle.edit_upgrade.specs.Lists.{HasRowLists};
 ghost use Rattle.edit_upgrade.specs.Drafts.{AreGiven};
-ghost use Rattle.edit_upgrade.specs.Revisions.{AddsAddresses, AreEntriesOf, AreFirstOutputs, AreRowsOf, HasEnoughRows, HasItsAddress, HasRowAddresses, HasRowEach, HasRevisedOutputs, HaveAddresses, IsAddressOf, IsManifest};
+ghost use Rattle.edit_upgrade.specs.Lists.{HasRowLists};
+ghost use Rattle.edit_upgrade.specs.PlannedView.{AreRowEntries};
+ghost use Rattle.edit_upgrade.specs.Revisions.{AddsAddresses, AreFirstOutputs, AreRowsOf, AreUtf8, HasEnoughRows, HasItsAddress, HasRowAddresses, HasRowEach, HasRevisedOutputs, HaveAddresses, IsAddressOf, IsAddressText, IsManifest, IsResolved};
 
 use crate::address_caches::{AddressCaches, keep_addresses, take_addresses};
 use crate::addresses::Addresses;
@@ -46,16 +48,42 @@ fn input_entries(
 ) -> CargoResult<Vec<Entry>>
     requires document { IfSome (option_copied document) (λ d. d.bytes ≡ input.now.bytes.items) }
     requires manifest { IsManifest input.now.bytes.items }
-    ensures entries { IfOk result (λ es. AreEntriesOf input.now.bytes.items (map row_entry_view es.items)) }
+    requires utf8 { option_copied document ≡ None → IsUtf8 input.now.bytes.items }
+    ensures entries { IfOk result (λ es. AreRowEntries input.now.bytes.items (map row_entry_view es.items)) }
     ensures error { IfErr result IsMemory }
 {
     match document {
-        Some(document) => row_entries(alloc, document),
+        Some(document) => {
+            let entries = row_entries(alloc, document)?;
+            Ok(entries)
+        }
         None => {
             let manifest = Manifest::read_bytes(alloc, &input.bytes)?;
-            row_entries(alloc, &manifest.document)
+            let entries = row_entries(alloc, &manifest.document)?;
+            Ok(entries)
         }
     }
+}
+
+/// The address of a registry, by its name, or of the default one.
+fn registry_address(
+    alloc: Global,
+    registry: Option<&str>,
+    addresses: &mut Addresses<'_>,
+) -> CargoResult<String>
+    requires addresses { AreAddresses addresses.old.configs.now addresses.old }
+    requires resolved { IsResolved addresses.old.configs.now (given registry) }
+    ensures addresses { OnOk result (AreAddresses addresses.old.configs.now addresses.new) }
+    ensures address { IfOk result (λ s. IsAddressText addresses.old.configs.now (given registry.entry)
+        (string_bytes s)) }
+    ensures error { IfErr result IsMemory }
+{
+    addresses.ensure_resolved(alloc, registry)?;
+    let Some(url) = addresses.url(registry) else {
+        unreachable!()
+    };
+    let address = String::from_str(alloc, url.as_str())?;
+    Ok(address)
 }
 
 /// The address of an entry's registry; `None` for a git or path dependency.
@@ -71,14 +99,16 @@ fn address_of(
         (option_map string_bytes o)) }
     ensures error { IfErr result IsMemory }
 {
-    let registry = match &entry.source {
-        Source::Registry(named) => named.as_deref(),
-        Source::Git | Source::Path => return Ok(None),
-    };
-    addresses.ensure_resolved(alloc, registry)?;
-    match addresses.url(registry) {
-        Some(url) => Ok(Some(String::from_str(alloc, url.as_str())?)),
-        None => Ok(None),
+    match &entry.source {
+        Source::Registry(Some(named)) => {
+            let address = registry_address(alloc, Some(named.as_str()), addresses)?;
+            Ok(Some(address))
+        }
+        Source::Registry(None) => {
+            let address = registry_address(alloc, None, addresses)?;
+            Ok(Some(address))
+        }
+        Source::Git | Source::Path => Ok(None),
     }
 }
 
@@ -116,6 +146,7 @@ pub fn row_addresses(
     requires configurations { length which.now ≡ length inputs.now }
     requires lists { AreIndices lists.now which.now }
     requires documents { AreGiven inputs.now documents.now }
+    requires utf8 { AreUtf8 inputs.now documents.now }
     requires resolved { HaveAddresses inputs.now (chosen_lists lists.now which.now) }
     ensures addresses { IfOk result (λ v. HasRowAddresses inputs.now (chosen_lists lists.now which.now)
         (map (option_map string_bytes) v.items)) }
@@ -128,7 +159,8 @@ pub fn row_addresses(
     let mut caches = AddressCaches::new(alloc);
     let mut found = Vec::new(alloc);
     'inputs: for (i, input) in inputs.iter().enumerate() {
-        let entries = input_entries(alloc, input, document_at(documents, i))?;
+        let document = document_at(documents, i);
+        let entries = input_entries(alloc, input, document)?;
         let list = list_index(configs, i);
         let mut addresses = take_addresses(alloc, configs, list, &mut caches);
         push_addresses(alloc, &entries, &mut addresses, &mut found)?;
@@ -164,6 +196,7 @@ fn input_outputs(
     rows: &[Row],
 ) -> CargoResult<(Vec<Output>, usize)>
     requires document { IfSome (option_copied document) (λ d. d.bytes ≡ input.now.bytes.items) }
+    requires utf8 { option_copied document ≡ None → IsUtf8 input.now.bytes.items }
     requires rows { HasEnoughRows input.now.bytes.items rows.now }
     ensures outputs { IfOk result (λ r. AreFirstOutputs input.now rows.now r.0.items r.1) }
     ensures error { IfErr result IsMemory }
@@ -185,17 +218,18 @@ fn revised_outputs(
     rows: &[Row],
 ) -> CargoResult<Vec<Output>>
     requires documents { AreGiven inputs.now documents.now }
+    requires utf8 { AreUtf8 inputs.now documents.now }
     requires rows { AreRowsOf inputs.now rows.now }
     ensures outputs { IfOk result (λ v. HasRevisedOutputs inputs.now rows.now v.items) }
     ensures error { IfErr result IsMemory }
 {
     let mut all = Vec::new(alloc);
-    let mut from = 0;
+    let mut rest = rows;
     'inputs: for (i, input) in inputs.iter().enumerate() {
         let document = document_at(documents, i);
-        let (outputs, count) = input_outputs(alloc, input, document, &rows[from..])?;
-        push_all(&mut all, outputs)?;
-        from += count;
+        let found = input_outputs(alloc, input, document, rest)?;
+        push_all(&mut all, found.0)?;
+        rest = &rest[found.1..];
     }
     Ok(all)
 }
@@ -212,6 +246,7 @@ pub fn revised_plan(
     missing: Vec<String>,
 ) -> CargoResult<UpgradePlan>
     requires documents { AreGiven inputs.now documents.now }
+    requires utf8 { AreUtf8 inputs.now documents.now }
     requires rows { AreRowsOf inputs.now rows.items }
     ensures rows { IfOk result (λ p. p.rows ≡ rows) }
     ensures outputs { IfOk result (λ p. HasRevisedOutputs inputs.now rows.items p.outputs.items) }

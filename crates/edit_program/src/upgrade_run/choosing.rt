@@ -2,7 +2,7 @@
 ghost use Rattle.std.specs.Prelude.{◌≡◌, ◌⊎◌, [], IfErr, IfOk, OnOk, option_copied};
 ghost use Rattle.edit_base.specs.Errors.{IsMemory};
 ghost use Rattle.edit_steps.specs.Sources.{AreDocuments};
-ghost use Rattle.edit_upgrade.specs.Revisions.{AreRowsOf};
+ghost use Rattle.edit_upgrade.specs.Revisions.{AreRowsOf, AreUtf8};
 ghost use Rattle.edit_choice.specs.ChosenRows.{missing_texts};
 ghost use Rattle.edit_program.specs.Choosing.{HasMissingRow, IsChosenOrSame, IsChosenPlan, IsMissingRow};
 
@@ -34,6 +34,7 @@ fn chosen_plan(
     plan: UpgradePlan,
 ) -> CargoResult<UpgradePlan>
     requires documents { AreDocuments target.now.documents.items target.now.inputs.items }
+    requires utf8 { AreUtf8 target.now.inputs.items target.now.documents.items }
     requires rows { AreRowsOf target.now.inputs.items plan.rows.items }
     ensures chosen { IfOk result (IsChosenPlan choice.now target.now.inputs.items plan) }
     ensures error { IfErr result (λ e. IsMemory e ⊎ IsMissingRow choice.now plan.rows.items e) }
@@ -52,7 +53,8 @@ fn chosen_plan(
         documents,
         ..
     } = target;
-    revised_plan(alloc, inputs, documents, rows, looks, warnings, missing)
+    let plan = revised_plan(alloc, inputs, documents, rows, looks, warnings, missing)?;
+    Ok(plan)
 }
 
 /// The plan to carry out: where rows are chosen, only these change.
@@ -63,6 +65,7 @@ pub(crate) fn choose_plan(
     plan: UpgradePlan,
 ) -> CargoResult<UpgradePlan>
     requires documents { AreDocuments target.now.documents.items target.now.inputs.items }
+    requires utf8 { AreUtf8 target.now.inputs.items target.now.documents.items }
     requires rows { AreRowsOf target.now.inputs.items plan.rows.items }
     ensures chosen { IfOk result
         (IsChosenOrSame (option_copied choice.entry) target.now.inputs.items plan) }

@@ -3,7 +3,7 @@ ghost use Rattle.std.specs.Prelude.{◌≡◌, ◌⊎◌, IfErr, IfOk, length, m
 ghost use Rattle.edit_base.specs.Errors.{IsMemory};
 ghost use Rattle.edit_steps.specs.Shared.{HasLists, lists_for};
 ghost use Rattle.edit_steps.specs.Sources.{AreDocuments};
-ghost use Rattle.edit_upgrade.specs.Revisions.{AreRowsOf, HaveAddresses};
+ghost use Rattle.edit_upgrade.specs.Revisions.{AreRowsOf, AreUtf8, HaveAddresses};
 ghost use Rattle.edit_program.specs.Revising.{IsRevised, IsRevisionError};
 
 use crate::upgrade_run::choosing::choose_plan;
@@ -22,9 +22,9 @@ pub(crate) struct RevisedPlan {
     pub(crate) apart: Vec<String>,
 }
 
-/// The plan to carry out, from the plan of each entry by itself: with `--unify` one requirement for each crate
-/// in each compatible range, and with `--rows` changes of the chosen rows alone. A number or a name of a row
-/// that is not there is an error.
+/// The plan to carry out, from the plan of each entry by itself: with `--unify` one requirement for each
+/// crate in each compatible range, and with `--rows` changes of the chosen rows alone. A number or a name of
+/// a row that is not there is an error.
 pub(crate) fn revise(
     alloc: Global,
     args: &UpgradeArgs<'_>,
@@ -35,10 +35,11 @@ pub(crate) fn revise(
     requires each { length configs.now.which.items ≡ length target.now.inputs.items }
     requires lists { HasLists configs.now }
     requires documents { AreDocuments target.now.documents.items target.now.inputs.items }
+    requires utf8 { AreUtf8 target.now.inputs.items target.now.documents.items }
     requires rows { AreRowsOf target.now.inputs.items plan.rows.items }
     requires resolved { HaveAddresses target.now.inputs.items (lists_for configs.now) }
-    ensures revised { IfOk result (λ r. IsRevised args.now target.now.inputs.items (lists_for configs.now) plan
-        r.plan (map string_bytes r.apart.items)) }
+    ensures revised { IfOk result (λ r. IsRevised args.now target.now.inputs.items (lists_for configs.now)
+        plan r.plan (map string_bytes r.apart.items)) }
     ensures error { IfErr result (λ e. IsMemory e
         ⊎ IsRevisionError args.now target.now.inputs.items (lists_for configs.now) plan e) }
 {

@@ -3,7 +3,7 @@ ghost use Rattle.std.specs.Prelude.{◌≡◌, IfErr, IfOk, length, map, option_
 ghost use Rattle.edit_base.specs.Errors.{IsMemory};
 ghost use Rattle.edit_steps.specs.Shared.{HasLists, lists_for};
 ghost use Rattle.edit_steps.specs.Sources.{AreDocuments};
-ghost use Rattle.edit_upgrade.specs.Revisions.{AreRowsOf, HaveAddresses};
+ghost use Rattle.edit_upgrade.specs.Revisions.{AreRowsOf, AreUtf8, HaveAddresses};
 ghost use Rattle.edit_program.specs.Unifying.{IsUnifiedOver, IsUnifiedOrSame};
 
 use crate::upgrade_run::upgrade_args::UpgradeArgs;
@@ -32,10 +32,11 @@ fn unified_plan(
     requires each { length configs.now.which.items ≡ length target.now.inputs.items }
     requires lists { HasLists configs.now }
     requires documents { AreDocuments target.now.documents.items target.now.inputs.items }
+    requires utf8 { AreUtf8 target.now.inputs.items target.now.documents.items }
     requires rows { AreRowsOf target.now.inputs.items plan.rows.items }
     requires resolved { HaveAddresses target.now.inputs.items (lists_for configs.now) }
-    ensures unified { IfOk result (λ u. IsUnifiedOver level target.now.inputs.items (lists_for configs.now) plan
-        u.plan (map (option_map string_bytes) u.addresses.items)) }
+    ensures unified { IfOk result (λ u. IsUnifiedOver level target.now.inputs.items (lists_for configs.now)
+        plan u.plan (map (option_map string_bytes) u.addresses.items)) }
     ensures error { IfErr result IsMemory }
 {
     let Target {
@@ -68,6 +69,7 @@ pub(crate) fn unify_plan(
     requires each { length configs.now.which.items ≡ length target.now.inputs.items }
     requires lists { HasLists configs.now }
     requires documents { AreDocuments target.now.documents.items target.now.inputs.items }
+    requires utf8 { AreUtf8 target.now.inputs.items target.now.documents.items }
     requires rows { AreRowsOf target.now.inputs.items plan.rows.items }
     requires resolved { HaveAddresses target.now.inputs.items (lists_for configs.now) }
     ensures unified { IfOk result (λ u. IsUnifiedOrSame args.now.unify args.now.options.level

@@ -10,6 +10,7 @@ pub returns-in-All : goal.returns-in-All
 returns-in-All c = record {
   rows = subst (λ chosen. AreChosen chosen c.args.rows.items c.args.rows.items) (sym c.in-All.is)
       (all_chosen 0 c.args.rows.items);
+  error = tt;
 }
 
 pub rows-preserved-in_ok-push : goal.rows-preserved-in_ok-push

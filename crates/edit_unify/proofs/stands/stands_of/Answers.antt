@@ -18,4 +18,5 @@ returns c = record {
       c.rows.invariant
       ∙ ap (map stand_beside) t.0
       ∙ stands-zip c.args.rows.now c.args.addresses.now;
+  error = tt;
 }
