@@ -1,4 +1,4 @@
-use Rattle.std.proofs.Common.{◌≡◌, ◌∙◌, List, [], ◌∷◌, Option, Some, false, ap, length, map, refl, sym}
+use Rattle.std.proofs.Common.{◌≡◌, ◌∙◌, List, [], ◌∷◌, Option, None, Some, false, ap, length, map, refl, sym}
 use Rattle.std.specs.Prelude.{◌==◌}
 use Rattle.std.proofs.lemmas.Bool.{true≢false}
 use Rattle.edit_version.specs.IndexEntry.{entry_of}
@@ -14,8 +14,8 @@ some_known (Some withheld) entries some = refl
 some_known None [] none = absurd (true≢false none)
 some_known None (e ∷ es) some = refl
 
-pub returns-in-Some-clause-answer : goal.returns-in-Some-clause-answer
-returns-in-Some-clause-answer c =
+pub returns-in_ok-clone_versions-in-Some-clause-answer : goal.returns-in_ok-clone_versions-in-Some-clause-answer
+returns-in_ok-clone_versions-in-Some-clause-answer c =
     let entries = c.in-Some.entries.now in
     ap Some (c.in_ok-clone_versions.ensures.ok ∙ ap (map entry_of) c.deref.ensures.value)
     ∙ some_known c.args.withheld entries.items
