@@ -1,9 +1,8 @@
 -- The versions of crates to which an index is restricted.
-use Rattle.std.specs.Prelude.{◌&&◌, [], ◌∷◌, ℕ, List, Bool, true, Option, Some, None, map, option_map}
+use Rattle.std.specs.Prelude.{◌&&◌, [], ◌∷◌, ℕ, List, Bool, true, Option, Some, None, option_map}
 use Rattle.std.specs.List.{filter}
 use Rattle.edit_lock.specs.AdaptedCalls.{locks}
 use Rattle.edit_lock.specs.LockFile.{Package, spec_of}
-use Rattle.edit_lock.specs.Views.{locked_package_view}
 use Rattle.edit_policy.specs.Holds.{passes_holds}
 use Rattle.edit_policy.specs.declared.policy.CratePolicy.{CratePolicy}
 use Rattle.edit_version.specs.IndexEntry.{IndexEntry}

@@ -1,5 +1,5 @@
 -- The tests of a restricted index, and what it is restricted to, as contracts see them.
-use Rattle.std.specs.Prelude.{ℕ, List, Bool, Option, String, map, option_map}
+use Rattle.std.specs.Prelude.{Option, String, map, option_map}
 use Rattle.std.specs.BTreeSet.{BTreeSet, contains_text}
 use Rattle.std.specs.declared.alloc.Global.{Global}
 use Rattle.edit_lock.specs.LockFile.{spec_of}

@@ -2,7 +2,6 @@
 use Rattle.std.proofs.Common.{◌≡◌, ◌∙◌, ℕ, ◌<◌, ◌+◌, Bool, true, false, Ordering, Less, Equal, Greater, List, [], ◌∷◌, ◌++◌, ap, append-nil, get_or, length, map, refl, string_bytes, sym, take}
 use Rattle.std.specs.Prelude.{String, ◌==◌, ◌&&◌, codes, if◌then◌else◌}
 use Rattle.std.specs.BTreeSet.{insert_key}
-use Rattle.std.specs.List.{flat_map}
 use Rattle.std.specs.Ordering.{match_ordering}
 use Rattle.std.specs.Str.{bytes_eq}
 use Rattle.std.specs.String.{string_cmp}

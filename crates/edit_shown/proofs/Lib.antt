@@ -11,3 +11,4 @@ pub mod MarkdownLemmas
 pub mod AnnotationLemmas
 pub mod RequirementLineLemmas
 pub mod HeldBackLemmas
+pub mod NumberedLemmas

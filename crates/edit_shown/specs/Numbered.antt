@@ -1,5 +1,5 @@
 -- The rows that change, numbered from 1 (own).
-use Rattle.std.specs.Prelude.{◌-◌, ℕ, List, [], ◌∷◌, ◌++◌, codes, decimal, filter, is_some, suc}
+use Rattle.std.specs.Prelude.{ℕ, List, [], ◌∷◌, ◌++◌, codes, decimal, filter, is_some, suc}
 use Rattle.edit_metadata.specs.declared.input.Input.{Input}
 use Rattle.edit_report.specs.declared.row.Row.{Row}
 use Rattle.edit_shown.specs.Annotations.{relative_path, row_text}

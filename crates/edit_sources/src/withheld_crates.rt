@@ -64,7 +64,8 @@ fn add_value(
     }
 }
 
-/// Adds what is held back of the version in a line, if that is valid, and returns whether the line is left out.
+/// Adds what is held back of the version in a line, if that is valid, and returns whether the line is left
+/// out.
 fn add_line(
     alloc: Global,
     line: &[u8],

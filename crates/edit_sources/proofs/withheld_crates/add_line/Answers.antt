@@ -6,14 +6,14 @@ use Rattle.edit_sources.proofs.PublishedLemmas.{is_withheld-none, is_withheld-va
 use Rattle.edit_sources.proofs.WithheldLemmas.{joined-none, line_of_crate-none, line_of_crate-value}
 use Rattle.edit_sources.proofs.withheld_crates.add_line.Goals as goal
 
-pub returns-in-Ok-clause-line : goal.returns-in-Ok-clause-line
-returns-in-Ok-clause-line c =
+pub returns-in_ok-add_value-in-Ok-clause-line : goal.returns-in_ok-add_value-in-Ok-clause-line
+returns-in_ok-add_value-in-Ok-clause-line c =
     c.is_withheld_value.ensures
     ∙ sym (is_withheld-value c.args.bound c.args.line.now (view c.in-Ok.value) c.in-Ok.ensures.ok.0
     c.in-Ok.ensures.ok.1)
 
-pub returns-in-Ok-clause-added : goal.returns-in-Ok-clause-added
-returns-in-Ok-clause-added c = λ q.
+pub returns-in_ok-add_value-in-Ok-clause-added : goal.returns-in_ok-add_value-in-Ok-clause-added
+returns-in_ok-add_value-in-Ok-clause-added c = λ q.
     c.in_ok-add_value.ensures q
     ∙ sym (ap (joined (get_by_text c.args.crates.now q))
     (line_of_crate-value c.args.bound q c.args.line.now (view c.in-Ok.value) c.in-Ok.ensures.ok.0

@@ -28,7 +28,7 @@ lines-preserved c =
           let before = get_by_text c.lines.crates name in
           c.lines.invariant.crates name
           ∙ ap (λ r. joined before (of_crate bound (lines_left r) name)) c.in-Some.is
-          ∙ of_crate-more bound name line before (get_by_text c.add_line-withheld.new.crates name)
+          ∙ of_crate-more bound name line before (get_by_text c.add_line.new.crates name)
           (lines_of c.in-Some.text.now) (lines_left after) c.split_line.ensures.lines
           (c.in_ok-withheld.ensures.added name);
     }

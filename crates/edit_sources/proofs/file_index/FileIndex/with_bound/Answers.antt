@@ -1,6 +1,5 @@
 use Rattle.std.proofs.Common.{◌∙◌, ℕ, List, ap, subst, sym}
 use Rattle.std.specs.BTreeMap.{get_by_text}
-use Rattle.std.proofs.lemmas.Result.{IfErr-weaker}
 use Rattle.edit_sources.specs.FileIndex.{HoldsLines}
 use Rattle.edit_sources.specs.IndexLines.{IsLinesError, lines_of}
 use Rattle.edit_sources.specs.Published.{text_by}
@@ -23,8 +22,8 @@ returns-in-Ok-clause-withheld c = λ name.
     ∙ c.in_ok-retained.ensures.crates name
     ∙ sym (ap (λ b. of_crate_in b c.args.bytes.now name) c.in-Some.is)
 
-pub returns-in-Err-clause-error : goal.returns-in-Err-clause-error
-returns-in-Err-clause-error c =
+pub returns-clause-error : goal.returns-clause-error
+returns-clause-error c =
     let published = c.deref.ensures.value ∙ c.in_ok-retained.ensures.text in
     published_error c.in-Some.bound c.args.bytes.now c.in-Err.error
     (subst (λ (t : List ℕ). IsLinesError (lines_of t) c.in-Err.error) published c.in-Err.ensures.error)
