@@ -49,7 +49,7 @@ root_of target lent inputs root is same found =
 pub fault_counts : {P : Type 0} (bytes : List ℕ) (own : PolicyError) (e : Error) → IsManifestFault bytes own
     → e ≡ error_of own → number_of e ≡ 3 → P
 fault_counts bytes (Unexpected place expected) e h is = error_counts e error.Policy is (λ n. cc n)
-fault_counts bytes (Failed memory) e h is = memory_counts e (subst IsMemory (sym is) h)
+fault_counts bytes (Failed cause) e h is = memory_counts e (subst IsMemory (sym is) h)
 
 -- documents of inputs are those of others with the same bytes
 documents_for : (ds : List DocumentViews) (old new : List Input)
