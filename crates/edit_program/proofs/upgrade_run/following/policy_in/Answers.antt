@@ -10,7 +10,8 @@ returns-in-Err-clause-error c =
     let own = c.in-Err.error in
     let e = c.explain_policy.result.error in
     let fault = subst (λ bytes. IsManifestFault bytes own) c.deref.ensures.value c.in-Err.ensures.error in
-    subst (λ root. HasFaultIn (option_copied root) e) (sym c.in-Some.is) (own, fault, c.explain_policy.ensures)
+    subst (λ root. HasFaultIn (option_copied root) e) (sym c.in-Some.is)
+    (own, fault, c.explain_policy.ensures)
 
 pub returns-in-Err-clause-counted : goal.returns-in-Err-clause-counted
 returns-in-Err-clause-counted c =
