@@ -43,13 +43,14 @@ pub root_of : (target : Target) (lent : Option (Bor Workspace)) (inputs : List I
     → IsRoot (option_map (λ w. workspace_view w.now) lent) inputs root → HasRoot target root
 root_of target lent inputs root is same found =
     subst (λ (xs : List Input). IsRoot (option_map workspace_view target.workspace) xs root) same
-    (subst (λ (w : Option WorkspaceModel). IsRoot w inputs root) (same_workspace lent target.workspace is) found)
+    (subst (λ (w : Option WorkspaceModel). IsRoot w inputs root) (same_workspace lent target.workspace is)
+    found)
 
 -- an error of a policy is not the device's
 pub fault_counts : {P : Type 0} (bytes : List ℕ) (own : PolicyError) (e : Error) → IsManifestFault bytes own
     → e ≡ error_of own → number_of e ≡ 3 → P
 fault_counts bytes (Unexpected place expected) e h is = error_counts e error.Policy is (λ n. cc n)
-fault_counts bytes (Failed memory) e h is = memory_counts e (subst IsMemory (sym is) h)
+fault_counts bytes (Failed cause) e h is = memory_counts e (subst IsMemory (sym is) h)
 
 -- documents of inputs are those of others with the same bytes
 documents_for : (ds : List DocumentViews) (old new : List Input)
@@ -103,8 +104,8 @@ planned_over s t index is may =
     (record { paths = may.paths; each = may.each; lists = may.lists; documents = may.documents })
 
 -- the index cannot be read
-pub index_refused : (args : UpgradeArgs) (current : List ℕ) (home : Option (List ℕ)) (old mid new : StoreView)
-    (e : Error) → OnlyReads old mid
+pub index_refused : (args : UpgradeArgs) (current : List ℕ) (home : Option (List ℕ))
+    (old mid new : StoreView) (e : Error) → OnlyReads old mid
     → IsCallError call.Read mid new e
     ⊎ (mid.tells ≡ true → HasNoIndex mid.file_at current (given args.index_file) e)
     → (IsReadCause current home (to_manifest_request args) old new e
@@ -114,7 +115,8 @@ pub index_refused : (args : UpgradeArgs) (current : List ℕ) (home : Option (Li
 index_refused args current home old mid new e reads (inl refused) =
     inl (inl (inl (inr (refused_on call.Read old mid new e reads refused))))
 index_refused args current home old mid new e reads (inr wrong) =
-    inr (λ t. inr (before (λ files. HasNoIndex files current (given args.index_file) e) old mid reads wrong t))
+    inr (λ t. inr
+    (before (λ files. HasNoIndex files current (given args.index_file) e) old mid reads wrong t))
 
 -- readings over an index that was read behind reads
 pub over_before : (args : UpgradeArgs) (current : List ℕ) (old mid : StoreView) (followed r : Readings)

@@ -207,8 +207,8 @@ fn over_index<'a, S: Store>(
 ) -> RunResult<Readings<'a>>
     ensures store { OnlyReads (S.view files.old) (S.view files.new) }
     ensures index { IfOk result (λ r. (S.view files.old).tells ≡ true
-        → AreOverIndex args.now current.now (S.view files.old).file_at readings r) }
-    ensures planned { MayBePlanned readings.sources → IfOk result (λ r. MayBePlanned r.sources) }
+        → AreOverIndex args.now current.now (S.view files.old).file_at readings.entry r) }
+    ensures planned { MayBePlanned readings.entry.sources → IfOk result (λ r. MayBePlanned r.sources) }
     ensures error { IfErr result (λ r. IsCallError call.Read (S.view files.old) (S.view files.new) r.error
         ⊎ ((S.view files.old).tells ≡ true
         → HasNoIndex (S.view files.old).file_at current.now (given args.now.index_file) r.error)) }

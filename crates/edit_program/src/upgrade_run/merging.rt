@@ -65,6 +65,7 @@ pub(crate) fn merge_args<'a>(
     ensures bound { IfOk result (λ m. m.published_before ≡ bound) }
 {
     let options = merge_options(alloc, &args.options, args.given, policy)?;
+    let rows = copy_rows(alloc, args.rows.as_ref())?;
     Ok(UpgradeArgs {
         manifest_path: args.manifest_path,
         metadata_json: args.metadata_json,
@@ -84,6 +85,6 @@ pub(crate) fn merge_args<'a>(
         published_before: bound,
         time: args.time,
         unify: args.unify,
-        rows: copy_rows(alloc, args.rows.as_ref())?,
+        rows,
     })
 }

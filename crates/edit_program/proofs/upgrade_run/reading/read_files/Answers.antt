@@ -18,10 +18,12 @@ returns-in_err-lock-clause-error g c =
     let old = g.S.Store.view c.args.files.now in
     let new = g.S.Store.view c.read_lock.new.files in
     let e = c.in_err-lock.field-0.0 in
-    failure_has c.from_residual.result e (λ error. IsReadCause current home (to_manifest_request args) old new error
+    failure_has c.from_residual.result e
+    (λ error. IsReadCause current home (to_manifest_request args) old new error
     ⊎ (old.tells ≡ true → HasNoLock args.to_lockfile old.file_at current (given args.lock_file) error))
     c.from_residual.ensures.1
-    (lock_refused args.to_lockfile old new current home (given args.lock_file) (to_manifest_request args) e.error c.in_err-lock.ensures.error)
+    (lock_refused args.to_lockfile old new current home (given args.lock_file) (to_manifest_request args)
+    e.error c.in_err-lock.ensures.error)
 
 pub returns-in_err-sources-clause-error : goal.returns-in_err-sources-clause-error
 returns-in_err-sources-clause-error g c =
@@ -37,7 +39,8 @@ returns-in_err-sources-clause-error g c =
     ⊎ (old.tells ≡ true → HasNoLock args.to_lockfile old.file_at current (given args.lock_file) error))
     c.from_residual-in_err-sources.ensures.1
     (inl (cause_after old mid new current home (to_manifest_request args) e.error c.in_ok-lock.ensures.store
-    (subst (λ a. IsReadCause current home a mid new e.error) c.to_manifest_request.ensures c.in_err-sources.ensures.error)))
+    (subst (λ a. IsReadCause current home a mid new e.error) c.to_manifest_request.ensures
+    c.in_err-sources.ensures.error)))
 
 pub returns-in_err-sources-clause-counted : goal.returns-in_err-sources-clause-counted
 returns-in_err-sources-clause-counted g c =
