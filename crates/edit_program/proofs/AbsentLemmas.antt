@@ -32,7 +32,9 @@ pub absent_said : (p : UpgradePlan) (o : Options) (offline : Bool) (exclude : Li
 absent_said p o offline exclude lookups names slice online excluded same_lookups are is =
     ap (λ (xs : List (String Global)). note_on (map string_bytes xs)) is
     ∙ ap note_on are
-    ∙ ap (λ (xs : List (String Global)). note_on (absent_names (is_among (map string_bytes xs)) lookups)) excluded
-    ∙ ap (λ (xs : List Look). note_on (absent_names (is_among (map string_bytes o.exclude.items)) xs)) same_lookups
+    ∙ ap (λ (xs : List (String Global)). note_on (absent_names (is_among (map string_bytes xs)) lookups))
+    excluded
+    ∙ ap (λ (xs : List Look). note_on (absent_names (is_among (map string_bytes o.exclude.items)) xs))
+    same_lookups
     ∙ sym (ap (λ b. if b then []
     else note_on (absent_names (is_among (map string_bytes o.exclude.items)) p.looks.items)) online)

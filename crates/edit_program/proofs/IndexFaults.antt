@@ -41,8 +41,8 @@ store_fails {I} {T} view index files store store_of e same is counts device =
     )
 
 -- a restricted index fails only where the index below it does
-pub restricted_fault : {I : Type 0} (view : I → IndexView) (restricted : RestrictedIndex I) (index : I) (e : Error)
-    → index_of restricted ≡ index → CountsIndexFault (view_of view) restricted e
+pub restricted_fault : {I : Type 0} (view : I → IndexView) (restricted : RestrictedIndex I) (index : I)
+    (e : Error) → index_of restricted ≡ index → CountsIndexFault (view_of view) restricted e
     → CountsIndexFault view index e
 restricted_fault {I} view restricted index e is counts device =
     let failed = counts device in

@@ -18,6 +18,8 @@ mod StagingLemmas
 pub mod UpgradeLemmas
 pub mod UpgradeCauseLemmas
 mod RevisionLemmas
+mod PlannedRowLemmas
+mod RevisedOrderLemmas
 pub mod PrintedLemmas
 pub mod SetVersionLemmas
 pub mod CopyLemmas

@@ -61,7 +61,8 @@ policy_cause HasFields args current home local old new e same (inr bad) =
 
 -- there is no plan for it
 pub plan_cause : (HasFields : List ℕ → Type 0) (args : UpgradeArgs) (current : List ℕ)
-    (home : Option (List ℕ)) (local old new : StoreView) (r : Readings) (e : Error) → SameFiles old.file_at new.file_at
+    (home : Option (List ℕ)) (local old new : StoreView) (r : Readings) (e : Error)
+    → SameFiles old.file_at new.file_at
     → (old.tells ≡ true → IsReady args current home old.file_at r)
     → IsMemory e ⊎ IsPlanCause r.args.options r.sources.target.inputs.items (lists_for r.sources.configs)
     (upgrade_index r local) e
@@ -102,8 +103,8 @@ stopped_later HasFields d old mid new e reads (inr lacks) = inr (
 
 -- the plan is not delivered
 pub stop_cause : (HasFields : List ℕ → Type 0) (args : UpgradeArgs) (current : List ℕ)
-    (home : Option (List ℕ)) (local old mid new : StoreView) (r : Readings) (single plan : UpgradePlan) (apart : List (List ℕ))
-    (path : Option (List ℕ)) (e : Error)
+    (home : Option (List ℕ)) (local old mid new : StoreView) (r : Readings) (single plan : UpgradePlan)
+    (apart : List (List ℕ)) (path : Option (List ℕ)) (e : Error)
     → OnlyReads old mid
     → (old.tells ≡ true → IsReady args current home old.file_at r) → IsPlannedFor r local single
     → IsRevisedFor r single plan apart

@@ -1,6 +1,6 @@
 -- An upgrade, from its steps.
-use Rattle.std.proofs.Common.{◌≡◌, ◌∙◌, ℕ, Bor, Bool, List, Option, Some, None, ap, inl, inr, length, option_map, subst, true}
-use Rattle.std.specs.Prelude.{◌⊎◌, ◌==◌, not, option_copied}
+use Rattle.std.proofs.Common.{◌≡◌, ◌∙◌, ℕ, Bor, Bool, List, Option, Some, None, ap, inl, inr, option_map, subst, true}
+use Rattle.std.specs.Prelude.{◌⊎◌, option_copied}
 use Rattle.edit_base.specs.Errors.{IsMemory}
 use Rattle.edit_base.specs.declared.errors.Error.{Error}
 use Rattle.edit_lock.specs.LockFile.{Package}
@@ -13,13 +13,10 @@ use Rattle.edit_metadata.specs.Metadata.{WorkspaceModel}
 use Rattle.edit_metadata.specs.Workspaces.{workspace_view}
 use Rattle.edit_metadata.specs.declared.input.Input.{Input}
 use Rattle.edit_metadata.specs.declared.workspace.Workspace.{Workspace}
-use Rattle.edit_report.specs.Applied.{AreWritten, HaveDistinctPaths}
+use Rattle.edit_report.specs.Applied.{AreWritten}
 use Rattle.edit_report.specs.declared.output.Output.{Output}
 use Rattle.edit_sources.specs.Configured.{given}
-use Rattle.edit_steps.proofs.DistinctPaths.{outputs_differ}
-use Rattle.edit_metadata.specs.Inputs.{HaveOwnPaths}
 use Rattle.edit_store.specs.Store.{OnlyReads, SameFiles, StoreView}
-use Rattle.edit_upgrade.specs.Inputs.{outputs_at}
 use Rattle.edit_upgrade.specs.declared.upgrade.UpgradePlan.{UpgradePlan}
 use Rattle.edit_steps.specs.Shared.{lists_for}
 use Rattle.edit_steps.specs.declared.upgrade_read.target.Target.{Target}
@@ -33,14 +30,6 @@ use Rattle.edit_program.specs.StderrText.{upgrade_stderr_text}
 use Rattle.edit_program.specs.Upgrading.{IsUpgradeResult, IsBroken, IsPathOf, IsPlannedFor, IsRevisedFor, IsUpgraded, called_workspace, delivery_by, delivery_for, diff_root, has_outputs, keeps_lock}
 use Rattle.edit_program.specs.declared.upgrade_run.following.Readings.{Readings}
 use Rattle.edit_program.specs.declared.upgrade_run.upgrade_args.UpgradeArgs.{UpgradeArgs}
-
--- the outputs of a plan go to paths of their own
-pub plan_paths : (r : Readings) (local : StoreView) (plan : UpgradePlan)
-    → HaveOwnPaths r.sources.target.inputs.items → IsPlannedFor r local plan
-    → HaveDistinctPaths plan.outputs.items
-plan_paths r local plan own planned =
-    outputs_differ (λ path. not (length (outputs_at path plan) == 0)) r.sources.target.inputs.items
-    plan.outputs.items own planned.is.outputs_in_order
 
 -- a plan over the index that is restricted by a test, where that is the test of the upgrade
 pub planned_for : (r : Readings) (local : StoreView) (plan : UpgradePlan) (test : Option VersionTest)

@@ -27,7 +27,8 @@ planned_whole : (o : Options) (inputs : List Input) (configs : List (Vec Config)
     → IsPlanned o inputs configs (restricted_view test no_view) plan
     → IsPlanned o inputs configs no_view plan
 planned_whole o inputs configs plan test none planned =
-    subst (λ (t : Option VersionTest). IsPlanned o inputs configs (restricted_view t no_view) plan) none planned
+    subst (λ (t : Option VersionTest). IsPlanned o inputs configs (restricted_view t no_view) plan) none
+    planned
 
 pub returns-in_err-plan-clause-error : goal.returns-in_err-plan-clause-error
 returns-in_err-plan-clause-error c =

@@ -86,8 +86,9 @@ returns-clause-counted g c =
     let docs = c.deref-2.result.now in
     let documents = documents_of c.args.target.now.documents.items c.args.target.now.inputs.items docs is
     c.deref-2.ensures.value c.deref.ensures.value c.requires.documents in
-    both_causes c.plan_shared.result _ _ _ (λ e given read. restricted_fault g.I.Index.view c.in_ok-index.index
-    c.args.index e c.in_ok-index.ensures.index (shared_count (view_of g.I.Index.view) c.in_ok-index.index
-    c.args.options.now is (chosen_lists c.deref-3.result.now c.deref-4.result.now) docs c.new-cache.result
-    c.plan_shared.new.index e c.new-cache.ensures.index documents given read))
+    both_causes c.plan_shared.result _ _ _ (λ e given read.
+    restricted_fault g.I.Index.view c.in_ok-index.index c.args.index e c.in_ok-index.ensures.index
+    (shared_count (view_of g.I.Index.view) c.in_ok-index.index c.args.options.now is
+    (chosen_lists c.deref-3.result.now c.deref-4.result.now) docs c.new-cache.result c.plan_shared.new.index e
+    c.new-cache.ensures.index documents given read))
     c.plan_shared.ensures.given c.plan_shared.ensures.read
