@@ -1,5 +1,5 @@
 -- The results of a lookup in an index in a single file (own).
-use Rattle.std.specs.Prelude.{◌≡◌, ℕ, List, [], ◌∷◌, ◌++◌, Option, Some, None, Ok, Err, true, false, map, ◌⊎◌, String, Vec, string_bytes}
+use Rattle.std.specs.Prelude.{◌≡◌, ℕ, List, [], ◌∷◌, ◌++◌, Option, Some, None, Ok, Err, true, false, map, ◌⊎◌, String, Vec, string_bytes, unwrap_or}
 use Rattle.std.specs.List.{All, filter}
 use Rattle.std.specs.Option.{option_map_or}
 use Rattle.std.specs.Str.{bytes_eq}
@@ -10,7 +10,7 @@ use Rattle.edit_version.specs.IndexEntry.{IndexEntry, entry_of}
 use Rattle.edit_sources.specs.Index.{IndexView, Outcome, bad_name}
 use Rattle.edit_sources.specs.IndexLines.{HaveEntriesInOrder, lines_of}
 use Rattle.edit_sources.specs.Names.{is_crate_name}
-use Rattle.edit_sources.specs.Withheld.{of_crate_in}
+use Rattle.edit_sources.specs.Withheld.{nothing, of_crate_in}
 use Rattle.edit_sources.specs.declared.published.PublishedBefore.{PublishedBefore}
 use Rattle.edit_sources.specs.declared.withheld.Withheld.{Withheld}
 use Rattle.edit_sources.specs.declared.file_index.FileIndex.{FileIndex}
@@ -48,6 +48,10 @@ IsAdded before entries after =
 -- what is held back of a crate; none where the file has no line of it, and without a bound (own)
 abbrev pub withheld_at : FileIndex → List ℕ → Option Withheld
 withheld_at index name = get_by_text index.withheld name
+
+-- this is held back of a crate: nothing where the file has no line of it, and without a bound (own)
+abbrev pub HasWithheld : FileIndex → List ℕ → Withheld → Type 0
+HasWithheld index name withheld = withheld ≡ unwrap_or (withheld_at index name) nothing
 
 -- each name has what is held back of the crate by its lines (own)
 abbrev pub HoldsWithheld : FileIndex → Option PublishedBefore → List ℕ → Type 0

@@ -1,11 +1,11 @@
 //! An index in a single file, which is read once.
-ghost use Rattle.std.specs.Prelude.{◌≡◌, ℕ, [], List, None, false, IfOk, IfErr, IfSome, map, slice_get, string_bytes, unwrap_or};
+ghost use Rattle.std.specs.Prelude.{◌≡◌, ℕ, [], List, None, Ok, false, IfOk, IfErr, IfSome, map, slice_get, string_bytes, unwrap_or};
 ghost use Rattle.std.specs.Option.{option_map_or};
 ghost use Rattle.std.specs.Str.{bytes_eq};
 ghost use Rattle.edit_base.specs.Errors.{IsMemory};
 ghost use Rattle.edit_version.specs.IndexEntry.{entry_of};
-ghost use Rattle.edit_sources.specs.FileIndex.{AreNamed, GroupsByName, HoldsLines, HoldsWithheld, IsAdded, file_view, if_known};
-ghost use Rattle.edit_sources.specs.Index.{answer_of};
+ghost use Rattle.edit_sources.specs.FileIndex.{AreNamed, FileGives, GroupsByName, HasWithheld, HoldsLines, HoldsWithheld, IsAdded, file_view, if_known};
+ghost use Rattle.edit_sources.specs.Index.{HasLookupCause, SameOutcomes, answer_of};
 ghost use Rattle.edit_sources.specs.IndexLines.{IsLinesError, lines_of};
 ghost use Rattle.edit_sources.specs.Published.{text_by};
 ghost use Rattle.edit_sources.specs.Withheld.{nothing, withheld_of};
@@ -176,7 +176,13 @@ impl Index for FileIndex {
         alloc: Global,
         _registry: &Url,
         name: &str,
-    ) -> CargoResult<Option<IndexKrate>> {
+    ) -> CargoResult<Option<IndexKrate>>
+        ensures same { SameOutcomes (file_view self.old).gives (file_view self.new).gives }
+        ensures given { IfOk result (λ k. FileGives self.old name.now (Ok (answer_of k))) }
+        ensures cause { HasLookupCause (file_view self.old) (file_view self.new) _registry.now name.now
+            result }
+        ensures withheld { IfOk result (λ k. IfSome k (λ k. HasWithheld self.old name.now k.withheld)) }
+    {
         if !is_crate_name(name) {
             return Err(Error::BadCrateName {
                 name: String::from_str(alloc, name)?,

@@ -14,7 +14,7 @@ returns-in_ok-add_value-in-Ok-clause-line c =
 
 pub returns-in_ok-add_value-in-Ok-clause-added : goal.returns-in_ok-add_value-in-Ok-clause-added
 returns-in_ok-add_value-in-Ok-clause-added c = λ q.
-    c.in_ok-add_value.ensures q
+    c.in_ok-add_value-in-Ok.ensures q
     ∙ sym (ap (joined (get_by_text c.args.crates.now q))
     (line_of_crate-value c.args.bound q c.args.line.now (view c.in-Ok.value) c.in-Ok.ensures.ok.0
     c.in-Ok.ensures.ok.1))
