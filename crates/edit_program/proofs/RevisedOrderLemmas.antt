@@ -17,6 +17,7 @@ use Rattle.edit_sources.specs.declared.config.Config.{Config}
 use Rattle.edit_steps.proofs.DistinctPaths.{outputs_differ}
 use Rattle.edit_unify.specs.Stands.{Required, stands_of}
 use Rattle.edit_unify.specs.Unified.{AreEach, IsRowWith, IsUnified}
+use Rattle.edit_upgrade.proofs.RevisedOutputs.{outputs_in_order}
 use Rattle.edit_upgrade.specs.Drafts.{outputs_on}
 use Rattle.edit_upgrade.specs.Inputs.{OutputsInOrder, RowsInOrder}
 use Rattle.edit_upgrade.specs.Revisions.{HasRevisedOutputs}
@@ -124,7 +125,8 @@ revised_rows args inputs configs single p apart turns revised =
 made_apart : (inputs : List Input) (rows : List Row) (outputs : List Output) → HaveOwnPaths inputs
     → HasRevisedOutputs inputs rows outputs → HaveDistinctPaths outputs
 made_apart inputs rows outputs own made =
-    outputs_differ (λ path. not (length (outputs_on path outputs) == 0)) inputs outputs own made.in_order
+    outputs_differ (λ path. not (length (outputs_on path outputs) == 0)) inputs outputs own
+    (outputs_in_order inputs rows outputs own made)
 
 unified_outputs : (due : Bool) (level : Option Level) (inputs : List Input) (configs : List (Vec Config))
     (single p : UpgradePlan) (addresses : List (Option (List ℕ))) → HaveOwnPaths inputs

@@ -1,7 +1,7 @@
 use Rattle.std.proofs.Common.{◌≡◌, List, ℕ, subst, sym}
 use Rattle.std.proofs.lemmas.Result.{IfOk-weaker}
 use Rattle.std.specs.Global.{Vec}
-use Rattle.std.specs.Prelude.{◌⊎◌, IfErr, IfOk}
+use Rattle.std.specs.Prelude.{◌⊎◌, IfErr, IfOk, OnOk}
 use Rattle.edit_base.specs.Errors.{IsMemory}
 use Rattle.edit_restricted_index.proofs.RestrictedLemmas.{over_restricted}
 use Rattle.edit_restricted_index.specs.RestrictedIndex.{view_of}
@@ -13,6 +13,7 @@ use Rattle.edit_tree.specs.DocumentViews.{DocumentViews}
 use Rattle.edit_steps.specs.Shared.{lists_for}
 use Rattle.edit_steps.specs.Sources.{AreDocuments}
 use Rattle.edit_upgrade.specs.ConfigLists.{AreIndices, chosen_lists}
+use Rattle.edit_upgrade.specs.Revisions.{AreUtf8}
 use Rattle.edit_program.specs.Planned.{IsPlanCause, IsPlanned}
 use Rattle.edit_program.proofs.CountLemmas.{shared_count}
 use Rattle.edit_program.proofs.IndexFaults.{restricted_fault}
@@ -53,6 +54,13 @@ returns-clause-planned g c =
     (IfOk-weaker r _ _ (λ p h. planned (view_of g.I.Index.view) c.in_ok-index.index o is
     (chosen_lists c.deref-3.result.now c.deref-4.result.now) c.new-cache.result c.plan_shared.new.index p
     c.new-cache.ensures.index c.new-cache.ensures.empty h) c.plan_shared.ensures.plan))))
+
+pub returns-clause-utf8 : goal.returns-clause-utf8
+returns-clause-utf8 g c =
+    subst (λ (xs : List Input). OnOk c.plan_shared.result (AreUtf8 xs c.args.target.now.documents.items))
+    c.deref.ensures.value
+    (subst (λ (ds : List DocumentViews). OnOk c.plan_shared.result (AreUtf8 c.deref.result.now ds))
+    c.deref-2.ensures.value c.plan_shared.ensures.utf8)
 
 pub returns-clause-error : goal.returns-clause-error
 returns-clause-error g c =

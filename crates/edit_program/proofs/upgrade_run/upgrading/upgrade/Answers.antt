@@ -19,7 +19,7 @@ use Rattle.edit_program.specs.UpgradeCauses.{IsUpgradeCause}
 use Rattle.edit_program.specs.Upgrading.{IsPathOf, delivery_for}
 use Rattle.edit_program.proofs.CountLemmas.{delivery_counts, fault_before}
 use Rattle.edit_program.proofs.OrderLemmas.{warnings_in_order}
-use Rattle.edit_program.proofs.PlannedRowLemmas.{lists_long, planned_addresses, planned_rows}
+use Rattle.edit_program.proofs.PlannedRowLemmas.{planned_addresses, planned_rows}
 use Rattle.edit_program.proofs.RevisedOrderLemmas.{revised_outputs, revised_rows}
 use Rattle.edit_program.proofs.RevisionLemmas.{revised_warnings, revision_counts}
 use Rattle.edit_program.proofs.UpgradeCauseLemmas.{plan_cause, policy_cause, revision_cause, stop_cause}
@@ -73,16 +73,13 @@ returns-in-Err-clause-error g c =
 
 pub revise-requires-clause-rows : goal.revise-requires-clause-rows
 revise-requires-clause-rows g c =
-    let s = c.in_ok-readings.readings.sources in
-    planned_rows c.in_ok-readings.readings.args.options s.target.inputs.items (lists_for s.configs)
-    c.in-Ok.plan (lists_long s c.in_ok-readings.ensures.planned) c.in-Ok.ensures.planned.is.rows
-    c.in-Ok.ensures.planned.is.rows_in_order
+    planned_rows c.in_ok-readings.readings.args.options c.in_ok-readings.readings.sources _ c.in-Ok.plan
+    c.in_ok-readings.ensures.planned c.in-Ok.ensures.planned
 
 pub revise-requires-clause-resolved : goal.revise-requires-clause-resolved
 revise-requires-clause-resolved g c =
-    let s = c.in_ok-readings.readings.sources in
-    planned_addresses c.in_ok-readings.readings.args.options s.target.inputs.items (lists_for s.configs)
-    c.in-Ok.plan (lists_long s c.in_ok-readings.ensures.planned) c.in-Ok.ensures.planned.is.rows
+    planned_addresses c.in_ok-readings.readings.args.options c.in_ok-readings.readings.sources _ c.in-Ok.plan
+    c.in_ok-readings.ensures.planned c.in-Ok.ensures.planned
 
 pub returns-in_err-revised-clause-why : goal.returns-in_err-revised-clause-why
 returns-in_err-revised-clause-why g c =
