@@ -1,5 +1,5 @@
 //! The plan over the files that were read.
-ghost use Rattle.std.specs.Prelude.{◌≡◌, ◌⊎◌, [], IfErr, IfOk, length, map, option_map, unwrap_or};
+ghost use Rattle.std.specs.Prelude.{◌≡◌, ◌⊎◌, [], IfErr, IfOk, OnOk, length, map, option_map, unwrap_or};
 ghost use Rattle.edit_base.specs.Errors.{IsMemory};
 ghost use Rattle.edit_lock.specs.Views.{lock_view, locked_package_view};
 ghost use Rattle.edit_restricted_index.specs.RestrictedIndex.{restricted_view};
@@ -8,6 +8,7 @@ ghost use Rattle.edit_restricted_index.specs.VersionTests.{test_of};
 ghost use Rattle.edit_metadata.specs.Inputs.{HaveOwnPaths};
 ghost use Rattle.edit_steps.specs.Shared.{HasLists, lists_for};
 ghost use Rattle.edit_steps.specs.Sources.{AreDocuments};
+ghost use Rattle.edit_upgrade.specs.Revisions.{AreUtf8};
 ghost use Rattle.edit_program.specs.Counted.{CountsIndexFault, CountsStoreFault};
 ghost use Rattle.edit_program.specs.Planned.{IsPlanCause, IsPlanned, index_view, restriction};
 
@@ -79,6 +80,8 @@ pub(crate) fn plan_over<I: Index + Drop>(
     requires documents { AreDocuments target.now.documents.items target.now.inputs.items }
     ensures planned { IfOk result (IsPlanned options.now target.now.inputs.items (lists_for configs.now)
         (restricted_view (test_of restriction.entry) (I.view index))) }
+    // without documents the bytes of the manifests were read as text
+    ensures utf8 { OnOk result (AreUtf8 target.now.inputs.items target.now.documents.items) }
     ensures error { IfErr result (λ e. IsMemory e
         ⊎ IsPlanCause options.now target.now.inputs.items (lists_for configs.now)
         (restricted_view (test_of restriction.entry) (I.view index)) e) }
@@ -114,6 +117,8 @@ pub(crate) fn plan_for<T: Store + Drop>(
     ensures planned { IfOk result (IsPlanned args.now.options target.now.inputs.items (lists_for configs.now)
         (restricted_view (test_of restriction.entry)
         (index_view args.now.published_before index (T.view index_files)))) }
+    // without documents the bytes of the manifests were read as text
+    ensures utf8 { OnOk result (AreUtf8 target.now.inputs.items target.now.documents.items) }
     ensures error { IfErr result (λ e. IsMemory e
         ⊎ IsPlanCause args.now.options target.now.inputs.items (lists_for configs.now)
         (restricted_view (test_of restriction.entry)
