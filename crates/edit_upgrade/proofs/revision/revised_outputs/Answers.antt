@@ -22,7 +22,8 @@ input_outputs-requires c = record {
 
 pub inputs-preserved : goal.inputs-preserved
 inputs-preserved c =
-    subst (λ (os : List Output). IsRevisedUpTo c.args.inputs.now c.args.rows.now (c.inputs.i + 1) _ os)
+    subst (λ (os : List Output). IsRevisedUpTo c.args.inputs.now c.args.rows.now (c.inputs.i + 1)
+    (drop c.in_ok-found.found.1 c.inputs.rest.now) os)
     (sym c.in_ok-push_all.ensures.ok)
     (outputs_next c.args.inputs.now c.args.rows.now c.inputs.i _ c.in_ok-found.found.1 c.inputs.all.items
     c.in_ok-found.found.0.items c.index-inputs-i.result c.inputs.invariant c.inputs-test.true
