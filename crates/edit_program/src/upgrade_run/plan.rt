@@ -80,7 +80,7 @@ pub(crate) fn plan_over<I: Index + Drop>(
     requires documents { AreDocuments target.now.documents.items target.now.inputs.items }
     ensures planned { IfOk result (IsPlanned options.now target.now.inputs.items (lists_for configs.now)
         (restricted_view (test_of restriction.entry) (I.view index))) }
-    // without documents the bytes of the inputs were read as text
+    // without documents the bytes of the manifests were read as text
     ensures utf8 { OnOk result (AreUtf8 target.now.inputs.items target.now.documents.items) }
     ensures error { IfErr result (λ e. IsMemory e
         ⊎ IsPlanCause options.now target.now.inputs.items (lists_for configs.now)
@@ -117,7 +117,7 @@ pub(crate) fn plan_for<T: Store + Drop>(
     ensures planned { IfOk result (IsPlanned args.now.options target.now.inputs.items (lists_for configs.now)
         (restricted_view (test_of restriction.entry)
         (index_view args.now.published_before index (T.view index_files)))) }
-    // without documents the bytes of the inputs were read as text
+    // without documents the bytes of the manifests were read as text
     ensures utf8 { OnOk result (AreUtf8 target.now.inputs.items target.now.documents.items) }
     ensures error { IfErr result (λ e. IsMemory e
         ⊎ IsPlanCause args.now.options target.now.inputs.items (lists_for configs.now)

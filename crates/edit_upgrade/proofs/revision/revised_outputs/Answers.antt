@@ -1,5 +1,7 @@
 use Rattle.std.proofs.Common.{◌+◌, List, arith, drop, subst, sym}
+use Rattle.std.proofs.lemmas.List.{take_rest}
 use Rattle.edit_report.specs.declared.output.Output.{Output}
+use Rattle.edit_report.specs.declared.row.Row.{Row}
 use Rattle.edit_upgrade.proofs.FurtherInputs.{given-at}
 use Rattle.edit_upgrade.proofs.RevisedInputs.{IsRevisedUpTo, enough_rows, outputs_end, outputs_next, outputs_start}
 use Rattle.edit_upgrade.proofs.RevisionLemmas.{utf8_at}
@@ -22,11 +24,14 @@ input_outputs-requires c = record {
 
 pub inputs-preserved : goal.inputs-preserved
 inputs-preserved c =
-    subst (λ (os : List Output). IsRevisedUpTo c.args.inputs.now c.args.rows.now (c.inputs.i + 1) _ os)
+    let behind = drop c.in_ok-found.found.1 c.inputs.rest.now in
+    subst (λ (rs : List Row). IsRevisedUpTo c.args.inputs.now c.args.rows.now (c.inputs.i + 1) rs
+    c.push_all.new.list.items) (sym (take_rest c.inputs.rest.now c.in_ok-found.found.1))
+    (subst (λ (os : List Output). IsRevisedUpTo c.args.inputs.now c.args.rows.now (c.inputs.i + 1) behind os)
     (sym c.in_ok-push_all.ensures.ok)
-    (outputs_next c.args.inputs.now c.args.rows.now c.inputs.i _ c.in_ok-found.found.1 c.inputs.all.items
-    c.in_ok-found.found.0.items c.index-inputs-i.result c.inputs.invariant c.inputs-test.true
-    c.index-inputs-i.is c.in_ok-found.ensures.outputs)
+    (outputs_next c.args.inputs.now c.args.rows.now c.inputs.i c.inputs.rest.now c.in_ok-found.found.1
+    c.inputs.all.items c.in_ok-found.found.0.items c.index-inputs-i.result c.inputs.invariant c.inputs-test.true
+    c.index-inputs-i.is c.in_ok-found.ensures.outputs))
 
 pub returns-clause-outputs : goal.returns-clause-outputs
 returns-clause-outputs c =

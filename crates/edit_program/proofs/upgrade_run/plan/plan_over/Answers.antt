@@ -1,7 +1,7 @@
 use Rattle.std.proofs.Common.{◌≡◌, List, ℕ, subst, sym}
-use Rattle.std.proofs.lemmas.Result.{IfOk-weaker}
+use Rattle.std.proofs.lemmas.Result.{IfOk-weaker, on_ok_weaker}
 use Rattle.std.specs.Global.{Vec}
-use Rattle.std.specs.Prelude.{◌⊎◌, IfErr, IfOk, OnOk}
+use Rattle.std.specs.Prelude.{◌⊎◌, IfErr, IfOk}
 use Rattle.edit_base.specs.Errors.{IsMemory}
 use Rattle.edit_restricted_index.proofs.RestrictedLemmas.{over_restricted}
 use Rattle.edit_restricted_index.specs.RestrictedIndex.{view_of}
@@ -18,13 +18,8 @@ use Rattle.edit_program.specs.Planned.{IsPlanCause, IsPlanned}
 use Rattle.edit_program.proofs.CountLemmas.{shared_count}
 use Rattle.edit_program.proofs.IndexFaults.{restricted_fault}
 use Rattle.edit_program.proofs.PlanLemmas.{both_causes, planned, shared_refused}
+use Rattle.edit_program.proofs.RevisionLemmas.{documents_of, utf8_of}
 use Rattle.edit_program.proofs.upgrade_run.plan.plan_over.Goals as goal
-
--- documents of inputs, as the slices of both have them
-documents_of : (all : List DocumentViews) (inputs : List Input) (docs : List DocumentViews) (is : List Input) → docs ≡ all
-    → is ≡ inputs → AreDocuments all inputs → AreDocuments docs is
-documents_of all inputs docs is one two h =
-    subst (AreDocuments docs) (sym two) (subst (λ (ds : List DocumentViews). AreDocuments ds inputs) (sym one) h)
 
 pub plan_shared-requires-clause-documents : goal.plan_shared-requires-clause-documents
 plan_shared-requires-clause-documents g c =
@@ -54,13 +49,6 @@ returns-clause-planned g c =
     (IfOk-weaker r _ _ (λ p h. planned (view_of g.I.Index.view) c.in_ok-index.index o is
     (chosen_lists c.deref-3.result.now c.deref-4.result.now) c.new-cache.result c.plan_shared.new.index p
     c.new-cache.ensures.index c.new-cache.ensures.empty h) c.plan_shared.ensures.plan))))
-
-pub returns-clause-utf8 : goal.returns-clause-utf8
-returns-clause-utf8 g c =
-    subst (λ (xs : List Input). OnOk c.plan_shared.result (AreUtf8 xs c.args.target.now.documents.items))
-    c.deref.ensures.value
-    (subst (λ (ds : List DocumentViews). OnOk c.plan_shared.result (AreUtf8 c.deref.result.now ds))
-    c.deref-2.ensures.value c.plan_shared.ensures.utf8)
 
 pub returns-clause-error : goal.returns-clause-error
 returns-clause-error g c =
@@ -100,3 +88,10 @@ returns-clause-counted g c =
     (chosen_lists c.deref-3.result.now c.deref-4.result.now) docs c.new-cache.result c.plan_shared.new.index e
     c.new-cache.ensures.index documents given read))
     c.plan_shared.ensures.given c.plan_shared.ensures.read
+
+pub returns-clause-utf8 : goal.returns-clause-utf8
+returns-clause-utf8 g c =
+    on_ok_weaker c.plan_shared.result
+    (λ (h : AreUtf8 c.deref.result.now c.deref-2.result.now). utf8_of c.deref-2.result.now c.deref.result.now
+    c.args.target.now.documents.items c.args.target.now.inputs.items (sym c.deref-2.ensures.value)
+    (sym c.deref.ensures.value) h) c.plan_shared.ensures.utf8

@@ -1,12 +1,17 @@
 use Rattle.std.proofs.Common.{◌∙◌, List, Option, String, ap, inl, inr, map, option_map, refl, string_bytes, subst, sym, ⊎_elim}
 use Rattle.std.specs.Global.{Vec}
 use Rattle.std.specs.declared.alloc.Global.{Global}
+use Rattle.std.specs.Prelude.{◌⊎◌}
+use Rattle.edit_base.specs.Errors.{IsMemory}
+use Rattle.edit_base.specs.declared.errors.Error.{Error}
 use Rattle.edit_choice.specs.declared.items.RowChoice.{RowChoice}
 use Rattle.edit_report.specs.declared.row.Row.{Row}
 use Rattle.edit_steps.specs.Shared.{lists_for}
 use Rattle.edit_unify.specs.Apart.{AreNames, apart_names}
 use Rattle.edit_unify.specs.Stands.{stands_of}
+use Rattle.edit_upgrade.proofs.PlannedLemmas.{failure-has}
 use Rattle.edit_program.specs.Choosing.{HasMissingRow, IsChosenOrSame}
+use Rattle.edit_program.specs.Revising.{IsRevisionError}
 use Rattle.edit_program.proofs.RevisionLemmas.{plan_rows_of}
 use Rattle.edit_program.proofs.upgrade_run.revising.revise.Goals as goal
 
@@ -37,3 +42,18 @@ returns-clause-revised c =
             c.in_ok-apart.ensures.names),
       );
     }
+
+pub returns-in_err-plan-clause-error : goal.returns-in_err-plan-clause-error
+returns-in_err-plan-clause-error c =
+    let e = c.in_err-plan.field-0.0 in
+    let unified = c.in_ok-unified.unified in
+    failure-has c.from_residual-in_err-plan.result e (λ (x : Error). IsMemory x
+    ⊎ IsRevisionError c.args.args.now c.args.target.now.inputs.items (lists_for c.args.configs.now) c.args.plan x)
+    c.from_residual-in_err-plan.ensures.1
+    (⊎_elim (λ memory. inl memory) (λ missing. inr (record {
+      unified = unified.plan;
+      addresses = map (option_map string_bytes) unified.addresses.items;
+      unifies = c.in_ok-unified.ensures.unified;
+      missing = subst (λ (o : Option RowChoice). HasMissingRow o unified.plan.rows.items e)
+          c.as_ref.ensures.value missing;
+    })) c.in_err-plan.ensures.error)
