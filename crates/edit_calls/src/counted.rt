@@ -22,6 +22,8 @@ impl<'a, I: Index> CountedIndex<'a, I> {
 impl<'a, I: Index> Index for CountedIndex<'a, I> {
     ghost view = { λ counted. I.view counted.index };
 
+    ghost withholds = { λ counted. I.withholds counted.index };
+
     fn look(
         &mut self,
         alloc: Global,

@@ -36,6 +36,8 @@ impl<'a, I: Drop> RestrictedIndex<'a, I> {
 impl<I: Index> Index for RestrictedIndex<'_, I> {
     ghost view = { λ i. view_of I.view i };
 
+    ghost withholds = { λ i. I.withholds (index_of i) };
+
     fn look(
         &mut self,
         alloc: Global,

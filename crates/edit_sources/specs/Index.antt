@@ -7,6 +7,7 @@ use Rattle.edit_base.specs.Errors.{number_of, IsMemory}
 use Rattle.edit_version.specs.IndexEntry.{IndexEntry, entry_of}
 use Rattle.edit_store.specs.Store.{IsRaisedCount}
 use Rattle.edit_sources.specs.declared.index.IndexKrate.{IndexKrate}
+use Rattle.edit_sources.specs.declared.withheld.Withheld.{Withheld}
 
 -- the entries of a crate (own)
 abbrev pub entries_of : IndexKrate → List IndexEntry
@@ -40,6 +41,10 @@ Outcome = Result (Option (List IndexEntry)) LookupError
 -- the possible results of a lookup of a name at an address (own)
 abbrev pub Outcomes : Type 1
 Outcomes = Parts → List ℕ → Outcome → Type 0
+
+-- what may be held back of the crate of a name at an address (own)
+abbrev pub Withholds : Type 1
+Withholds = Parts → List ℕ → Withheld → Type 0
 
 -- the model of an index: the possible results of its lookups, and its count of faults (own)
 pub record IndexView : Type 1 where

@@ -171,6 +171,8 @@ fn krate_of(
 impl Index for FileIndex {
     ghost view = { file_view };
 
+    ghost withholds = { λ i _ name withheld. HasWithheld i name withheld };
+
     fn look(
         &mut self,
         alloc: Global,

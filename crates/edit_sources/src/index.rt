@@ -1,8 +1,8 @@
 //! The trait of an index, and the entries that it returns.
-ghost use Rattle.std.specs.Prelude.{◌≡◌, Ok, IfOk, IfErr, map};
+ghost use Rattle.std.specs.Prelude.{◌≡◌, Ok, IfOk, IfErr, IfSome, map};
 ghost use Rattle.edit_base.specs.Errors.{IsMemory};
 ghost use Rattle.edit_version.specs.IndexEntry.{entry_of};
-ghost use Rattle.edit_sources.specs.Index.{HasLookupCause, IndexView, SameOutcomes, answer_of, entries_of};
+ghost use Rattle.edit_sources.specs.Index.{HasLookupCause, IndexView, SameOutcomes, Withholds, answer_of, entries_of};
 
 use crate::withheld::Withheld;
 use edit_base::errors::CargoResult;
@@ -53,6 +53,9 @@ pub trait Index {
     /// error with its arguments), and how often the device below it has failed.
     ghost view: { Self → IndexView };
 
+    /// What may be held back of the versions of a crate, by the address and the name of its lookup.
+    ghost withholds: { Self → Withholds };
+
     /// Looks up a crate; `None` where the index has no crate of that name.
     ///
     /// `Error::Scheme`, `Error::IndexPath`, `Error::BadCrateName` and `Error::IndexLine` depend on the
@@ -60,7 +63,9 @@ pub trait Index {
     fn look(&mut self, alloc: Global, registry: &Url, name: &str) -> CargoResult<Option<IndexKrate>>
         ensures same { SameOutcomes (view self.old).gives (view self.new).gives }
         ensures given { IfOk result (λ k. (view self.old).gives registry.now name.now (Ok (answer_of k))) }
-        ensures cause { HasLookupCause (view self.old) (view self.new) registry.now name.now result };
+        ensures cause { HasLookupCause (view self.old) (view self.new) registry.now name.now result }
+        ensures withheld { IfOk result (λ k. IfSome k (λ k. withholds self.old registry.now name.now
+            k.withheld)) };
 
     /// How often the device below the index has failed.
     fn faults(&self) -> u64

@@ -44,6 +44,8 @@ impl<S: Store> LocalIndex<S> {
 impl<S: Store> Index for LocalIndex<S> {
     ghost view = { λ i. local_view (published_view i.bound (S.view i.store)) };
 
+    ghost withholds = { λ i. HasWithheld (bound_of i) (S.view (store_of i)) };
+
     fn look(&mut self, alloc: Global, registry: &Url, name: &str) -> CargoResult<Option<IndexKrate>>
         ensures same { SameOutcomes (LocalGives (files_of S.view self.old))
             (LocalGives (files_of S.view self.new)) }

@@ -1,5 +1,5 @@
 //! An index without any crate.
-ghost use Rattle.edit_program.specs.NoIndex.{no_view};
+ghost use Rattle.edit_program.specs.NoIndex.{no_view, none_withheld};
 
 use edit_base::{CargoResult, Error};
 use edit_sources::index::{Index, IndexKrate};
@@ -13,6 +13,8 @@ pub struct NoIndex {}
 
 impl Index for NoIndex {
     ghost view = { λ _. no_view };
+
+    ghost withholds = { λ _. none_withheld };
 
     fn look(
         &mut self,

@@ -51,6 +51,8 @@ impl<S: Store> DirIndex<S> {
 impl<S: Store> Index for DirIndex<S> {
     ghost view = { λ i. dir_view (folder_of i) (published_view i.bound (S.view i.store)) };
 
+    ghost withholds = { λ i. HasWithheld (bound_of i) (folder_of i) (S.view (store_of i)) };
+
     fn look(&mut self, alloc: Global, registry: &Url, name: &str) -> CargoResult<Option<IndexKrate>>
         ensures same { SameOutcomes (DirGives (folder_of self.old) (files_of S.view self.old))
             (DirGives (folder_of self.new) (files_of S.view self.new)) }
