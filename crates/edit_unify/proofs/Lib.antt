@@ -1,4 +1,5 @@
 pub mod ApartLemmas
+pub mod GroupLemmas
 pub mod LeaderLemmas
 pub mod OneTextLemmas
 pub mod StandLemmas
