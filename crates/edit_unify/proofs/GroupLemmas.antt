@@ -42,7 +42,7 @@ option_is (Some m) (Some n) is = ap Some (nat_is m n is)
 same_caret : (a b : Caret) → a.0 ≡ b.0 → a.1 ≡ b.1 → a.2 ≡ b.2 → a ≡ b
 same_caret a b m n p = λ i. (m i, n i, p i)
 
-same_range : (a b : Caret) → is_same_range a b ≡ true → range_of a ≡ range_of b
+pub same_range : (a b : Caret) → is_same_range a b ≡ true → range_of a ≡ range_of b
 same_range a b is =
     same_caret (range_of a) (range_of b) (nat_is _ _ (left _ _ is))
     (option_is _ _ (left _ _ (right _ _ is))) (option_is _ _ (right _ _ (right _ _ is)))

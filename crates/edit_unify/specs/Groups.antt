@@ -10,25 +10,40 @@ use Rattle.edit_unify.specs.Ranges.{Caret, kept_minor, numbers_of, range_of}
 use Rattle.edit_unify.specs.Stands.{Required, stand_view}
 use Rattle.edit_unify.specs.Unified.{unless_same}
 use Rattle.edit_unify.specs.declared.groups.Group.{Group}
+use Rattle.edit_unify.specs.declared.groups.RegistryCrate.{RegistryCrate}
 use Rattle.edit_unify.specs.declared.stands.Stand.{Stand}
 
--- a crate and the address of its registry, the numbers of a range, and the minor number that a level keeps
+-- a crate, by its name and the address of its registry
+abbrev pub CrateAt : Type 0
+CrateAt = List ℕ × List ℕ
+
+-- the crate that a row requires
+abbrev pub crate_of : Required → CrateAt
+crate_of own = (own.name, own.address)
+
+-- a crate of the program's type (own)
+abbrev pub crate_view : RegistryCrate → CrateAt
+crate_view k = (k.name.now, k.address.now)
+
+-- the order of crates in a map (own)
+abbrev pub crate_cmp : CrateAt → CrateAt → Ordering
+crate_cmp a b = ordering_then (slice_cmp nat_cmp a.0 b.0) (slice_cmp nat_cmp a.1 b.1)
+
+-- a crate, the numbers of a compatible range, and the minor number that a level keeps
 abbrev pub Shared : Type 0
-Shared = (List ℕ × List ℕ) × Caret × ℕ
+Shared = CrateAt × Caret × ℕ
 
 -- what a row has in common with those that are together with it
 abbrev pub group_of : Option Level → Required → Shared
-group_of level own = ((own.name, own.address), range_of own.caret, kept_minor level own.caret)
+group_of level own = (crate_of own, range_of own.caret, kept_minor level own.caret)
 
 -- a group of the program's type (own)
 abbrev pub group_view : Group → Shared
-group_view g = ((g.krate.name.now, g.krate.address.now), numbers_of g.range, g.minor)
+group_view g = (crate_view g.krate, numbers_of g.range, g.minor)
 
--- the order of the groups in a map (own)
+-- the order of groups in a map (own)
 abbrev pub group_cmp : Shared → Shared → Ordering
-group_cmp a b =
-    ordering_then (ordering_then (slice_cmp nat_cmp a.0.0 b.0.0) (slice_cmp nat_cmp a.0.1 b.0.1))
-    (ordering_then (caret_cmp a.1 b.1) (nat_cmp a.2 b.2))
+group_cmp a b = ordering_then (crate_cmp a.0 b.0) (ordering_then (caret_cmp a.1 b.1) (nat_cmp a.2 b.2))
   where
     caret_cmp : Caret → Caret → Ordering
     caret_cmp x y =

@@ -4,3 +4,4 @@ pub mod Groups
 pub mod Leaders
 pub mod Unified
 pub mod Apart
+pub mod Firsts

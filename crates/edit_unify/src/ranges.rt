@@ -1,8 +1,8 @@
 //! The compatible range of a requirement: the versions from its floor on that have its leading numbers.
-ghost use Rattle.std.specs.Prelude.{◌≡◌, ◌&&◌, IfErr, IfOk, option_map};
+ghost use Rattle.std.specs.Prelude.{◌≡◌, IfErr, IfOk, option_map};
 ghost use Rattle.edit_base.specs.Errors.{IsMemory};
 ghost use Rattle.edit_version.specs.Requirement.{comparators_of};
-ghost use Rattle.edit_unify.specs.Ranges.{caret_in, caret_of, is_higher, is_same_range, kept_minor, numbers_of, range_of};
+ghost use Rattle.edit_unify.specs.Ranges.{caret_in, caret_of, is_higher, kept_minor, numbers_of, range_of};
 
 use edit_base::CargoResult;
 use edit_version::{Level, read_requirement};
@@ -45,25 +45,6 @@ pub(crate) fn caret_of(alloc: Global, text: &str) -> CargoResult<Option<Numbers>
     match read_requirement(alloc, text)? {
         Some(req) => Ok(caret_in(&req)),
         None => Ok(None),
-    }
-}
-
-/// Whether caret requirements with these numbers admit no version of which the other one admits no later
-/// one: their numbers are the same up to the first that is not 0.
-pub(crate) fn is_same_range(a: Numbers, b: Numbers) -> bool
-    ensures { result ≡ is_same_range (numbers_of a) (numbers_of b) }
-{
-    if a.major != b.major {
-        return false;
-    }
-    if a.major != 0 {
-        return true;
-    }
-    match (a.minor, b.minor) {
-        (None, None) => true,
-        (Some(0), Some(0)) => a.patch == b.patch,
-        (Some(a), Some(b)) => a == b,
-        _ => false,
     }
 }
 

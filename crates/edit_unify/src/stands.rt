@@ -1,7 +1,7 @@
 //! The rows that take part: each stands for a crate at a registry, with a requirement of a compatible range.
-ghost use Rattle.std.specs.Prelude.{◌≡◌, ◌&&◌, IfErr, IfOk, map, option_map, string_bytes};
+ghost use Rattle.std.specs.Prelude.{◌≡◌, IfErr, IfOk, map, option_map, string_bytes};
 ghost use Rattle.edit_base.specs.Errors.{IsMemory};
-ghost use Rattle.edit_unify.specs.Stands.{is_left_out, is_same_crate, stand_of, stand_view, stands_of};
+ghost use Rattle.edit_unify.specs.Stands.{is_left_out, stand_of, stand_view, stands_of};
 
 use crate::ranges::{Numbers, caret_of};
 use edit_base::CargoResult;
@@ -69,11 +69,4 @@ pub(crate) fn stands_of<'a>(
         stands.push(stand)?;
     }
     Ok(stands)
-}
-
-/// Whether two rows require one crate of one registry.
-pub(crate) fn is_same_crate(a: &Stand<'_>, b: &Stand<'_>) -> bool
-    ensures { result ≡ is_same_crate (stand_view a.now) (stand_view b.now) }
-{
-    a.name == b.name && a.address == b.address
 }
