@@ -1,5 +1,5 @@
--- The names of rows whose crates are apart, after one more row.
-use Rattle.std.proofs.Common.{Bor, ◌≡◌, ◌∷◌, ◌++◌, ◌<◌, ◌+◌, ◌∙◌, [], List, ℕ, Bool, true, false, Option, None, Some, ap, append-nil, get_or, length, map, option_map, refl, sym, take}
+-- The names that were found for the rows so far, after one more row.
+use Rattle.std.proofs.Common.{◌≡◌, ◌∷◌, ◌++◌, ◌<◌, ◌+◌, ◌∙◌, [], List, ℕ, Bool, true, false, Option, None, Some, ap, append-nil, get_or, length, map, refl, sym, take}
 use Rattle.std.specs.Prelude.{◌||◌, String, if◌then◌else◌, string_bytes}
 use Rattle.std.specs.BTreeMap.{is_at}
 use Rattle.std.specs.Cmp.Lexicographic.{slice_cmp}
@@ -11,9 +11,7 @@ use Rattle.std.proofs.lemmas.List.Elements.{filter_map-append}
 use Rattle.std.proofs.lemmas.List.Folds.{list_any-append}
 use Rattle.std.proofs.lemmas.Map.Text.{is_eq-slice_cmp}
 use Rattle.std.proofs.lemmas.Slice.Eq.{bytes_eq-Decides}
-use Rattle.edit_unify.specs.Apart.{apart_name}
-use Rattle.edit_unify.specs.Stands.{Required, stand_view}
-use Rattle.edit_unify.specs.declared.stands.Stand.{Stand}
+use Rattle.edit_unify.specs.Stands.{Required}
 
 or_if : (a w : Bool) → (w || (a || false)) ≡ (if a then true else w)
 or_if true true = refl
@@ -32,7 +30,7 @@ swap_by a b true false x y =
 swap_by a b false true x y =
     absurd (true_false (sym ((bytes_eq-Decides a b).1 (sym ((bytes_eq-Decides b a).0 y))) ∙ x))
 
-same_swap : (a b : List ℕ) → bytes_eq a b ≡ bytes_eq b a
+pub same_swap : (a b : List ℕ) → bytes_eq a b ≡ bytes_eq b a
 same_swap a b = swap_by a b (bytes_eq a b) (bytes_eq b a) refl refl
 
 names_more : {X : Type 0} (v : X → Option Required) (h : Option Required → Option (List ℕ)) (xs : List X) (i : ℕ)
@@ -69,15 +67,6 @@ set_more v h xs i d name lt one was now before added q =
     ∙ list_any-append (bytes_eq q) names (name ∷ [])
     ∙ ap (λ (b : Bool). list_any (bytes_eq q) names || (b || false)) (same_swap q name)
     ∙ or_if (bytes_eq name q) (list_any (bytes_eq q) names))
-
--- what was found for a row, over the same rows
-pub found_by : (xs ys : List (Option Stand)) (x : Option Required) (r : Option (Bor (List ℕ)))
-    (o : Option (List ℕ)) → xs ≡ ys
-    → option_map (λ name. name.now) r ≡ apart_name (map (option_map stand_view) ys) x
-    → option_map (λ name. name.now) r ≡ o → apart_name (map (option_map stand_view) xs) x ≡ o
-found_by xs ys x r o same found is =
-    ap (λ (stands : List (Option Stand)). apart_name (map (option_map stand_view) stands) x) same
-    ∙ sym found ∙ is
 
 -- whether a text is among texts, by a set of them
 pub text_any : {Y : Type 0} (name : List ℕ) (ks : List (String Y))

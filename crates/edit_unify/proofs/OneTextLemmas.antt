@@ -1,72 +1,19 @@
 -- After the turns rows that are together have one text, that of their one leader.
-use Rattle.std.proofs.Common.{◌≡◌, ◌∷◌, [], ◌∙◌, ⊎_elim, List, Bool, true, false, ℕ, Option, Some, None, ap, refl, sym, subst, arith, map, option_map, string_bytes, eq-eqb}
-use Rattle.std.specs.Prelude.{◌&&◌, ◌==◌, Contains, String, if◌then◌else◌, option_and_then, unwrap_or}
+use Rattle.std.proofs.Common.{◌≡◌, ◌∷◌, [], ◌∙◌, ⊎_elim, List, Bool, true, false, ℕ, Option, Some, None, ap, refl, sym, subst, map, option_map, string_bytes}
+use Rattle.std.specs.Prelude.{◌&&◌, Contains, String, if◌then◌else◌, option_and_then}
 use Rattle.std.specs.List.{AllZip, fold, zip}
-use Rattle.std.specs.Option.{option_eq}
 use Rattle.std.specs.Str.{bytes_eq}
 use Rattle.std.specs.declared.alloc.Global.{Global}
-use Rattle.std.proofs.lemmas.Bool.Decides.{nat_tests}
 use Rattle.std.proofs.lemmas.Slice.Eq.{bytes_eq-Decides}
 use Rattle.edit_report.specs.declared.row.Row.{Row}
 use Rattle.edit_version.specs.declared.levels.Level.{Level}
-use Rattle.edit_version.specs.declared.levels.Level.TheVariants as level
 use Rattle.edit_unify.specs.Leaders.{better, leader}
-use Rattle.edit_unify.specs.Ranges.{Caret, caret_of, is_same_range, keeps_level, range_of}
+use Rattle.edit_unify.specs.Ranges.{Caret, caret_of, is_same_range, keeps_level}
 use Rattle.edit_unify.specs.Stands.{Required, is_left_out, is_same_crate, is_together, required, stand_of, stands_of}
 use Rattle.edit_unify.specs.Unified.{HasOneText, IsWithText, taken_text, taken_texts, unless_same}
+use Rattle.edit_unify.proofs.GroupLemmas.{alike, right}
 use Rattle.edit_unify.proofs.LeaderLemmas.{first_or_rest, has_first, has_more, leader_is, leader_there, none_in, none_is, some_is}
 use Rattle.edit_unify.proofs.UnifyLemmas.{IsTurn, IsTurnBy, both, first_is, rest_is, self_together}
-
-left : (a b : Bool) → (a && b) ≡ true → a ≡ true
-left true b is = refl
-left false b is = is
-
-right : (a b : Bool) → (a && b) ≡ true → b ≡ true
-right true b is = is
-right false b is = absurd (cc is)
-
-nat_is : (m n : ℕ) → (m == n) ≡ true → m ≡ n
-nat_is m n is = grind (arith, nat_tests, is)
-
-option_is : (x y : Option ℕ) → option_eq (λ m n. m == n) x y ≡ true → x ≡ y
-option_is None None is = refl
-option_is None (Some n) is = absurd (cc is)
-option_is (Some m) None is = absurd (cc is)
-option_is (Some m) (Some n) is = ap Some (nat_is m n is)
-
-range_alike : (a b : Caret) → is_same_range a b ≡ true → (x : Caret)
-    → is_same_range a x ≡ is_same_range b x
-range_alike a b is x =
-    let m = nat_is (range_of a).0 (range_of b).0 (left _ _ is) in
-    let n = option_is (range_of a).1 (range_of b).1 (left _ _ (right _ _ is)) in
-    let p = option_is (range_of a).2 (range_of b).2 (right _ _ (right _ _ is)) in
-    cc (m, n, p)
-
-keeps_alike : (level : Option Level) (a b : Caret) → keeps_level level a b ≡ true → (x : Caret)
-    → keeps_level level a x ≡ keeps_level level b x
-keeps_alike None a b is x = refl
-keeps_alike (Some level.Patch) a b is x =
-    ap (λ n. n == unwrap_or x.1 0) (nat_is (unwrap_or a.1 0) (unwrap_or b.1 0) is)
-keeps_alike (Some level.Minor) a b is x = refl
-keeps_alike (Some level.Major) a b is x = refl
-
--- rows that are together are so with the same rows
-alike : (level : Option Level) (a b : Required) → is_together level a b ≡ true → (x : Required)
-    → is_together level a x ≡ is_together level b x
-alike level a b is x =
-    let crate_is = left _ _ is in
-    let name = (bytes_eq-Decides a.name b.name).0 (left _ _ crate_is) in
-    let address = (bytes_eq-Decides a.address b.address).0 (right _ _ crate_is) in
-    let range = range_alike a.caret b.caret (left _ _ (right _ _ is)) x.caret in
-    let keeps = keeps_alike level a.caret b.caret (right _ _ (right _ _ is)) x.caret in
-    ap (λ n. (bytes_eq n x.name && bytes_eq a.address x.address)
-    && (is_same_range a.caret x.caret && keeps_level level a.caret x.caret)) name
-    ∙ ap (λ n. (bytes_eq b.name x.name && bytes_eq n x.address)
-    && (is_same_range a.caret x.caret && keeps_level level a.caret x.caret)) address
-    ∙ ap (λ t. (bytes_eq b.name x.name && bytes_eq b.address x.address)
-    && (t && keeps_level level a.caret x.caret)) range
-    ∙ ap (λ t. (bytes_eq b.name x.name && bytes_eq b.address x.address)
-    && (is_same_range b.caret x.caret && t)) keeps
 
 better_alike : (level : Option Level) (a b : Required)
     → ((x : Required) → is_together level a x ≡ is_together level b x) → (best other : Option Required)

@@ -1,7 +1,7 @@
 -- What each row requires, from pairs of rows and addresses.
-use Rattle.std.proofs.Common.{◌≡◌, ◌∷◌, [], List, Bool, ℕ, Option, ap, map, option_map, refl, string_bytes, ◌||◌}
+use Rattle.std.proofs.Common.{◌≡◌, ◌∷◌, [], List, Option, ap, map, option_map, refl, string_bytes}
 use Rattle.std.specs.Prelude.{String}
-use Rattle.std.specs.List.{list_any, zip}
+use Rattle.std.specs.List.{zip}
 use Rattle.std.specs.declared.alloc.Global.{Global}
 use Rattle.edit_report.specs.declared.row.Row.{Row}
 use Rattle.edit_unify.specs.Stands.{Required, stand_of, stands_of}
@@ -19,9 +19,3 @@ stands-zip [] (a ∷ addresses) = refl
 stands-zip (r ∷ rows) [] = refl
 stands-zip (r ∷ rows) (a ∷ addresses) =
     ap (λ xs. stand_of (option_map string_bytes a) r ∷ xs) (stands-zip rows addresses)
-
--- a test of what a list is mapped to
-pub list_any-map : {X : Type 0} (p : X → Bool) → {Y : Type 0} (h : Y → X) (ys : List Y)
-    → list_any p (map h ys) ≡ list_any (λ y. p (h y)) ys
-list_any-map p h [] = refl
-list_any-map p h (y ∷ ys) = ap (λ b. p (h y) || b) (list_any-map p h ys)

@@ -52,6 +52,11 @@ abbrev pub keeps_level : Option Level → Caret → Caret → Bool
 keeps_level (Some Patch) a b = unwrap_or a.1 0 == unwrap_or b.1 0
 keeps_level level a b = true
 
+-- the minor number of a floor where the level keeps it, else 0 (own)
+abbrev pub kept_minor : Option Level → Caret → ℕ
+kept_minor (Some Patch) caret = unwrap_or caret.1 0
+kept_minor level caret = 0
+
 -- the floor of the first caret comparator is higher than that of the second; missing numbers are 0
 abbrev pub is_higher : Caret → Caret → Bool
 is_higher a b = is_gt (ordering_then (nat_cmp a.0 b.0)

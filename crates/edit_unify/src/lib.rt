@@ -2,6 +2,7 @@
 #![tactic(auto)]
 
 mod apart;
+mod groups;
 mod leaders;
 mod ranges;
 mod rows;

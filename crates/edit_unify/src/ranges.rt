@@ -1,8 +1,8 @@
 //! The compatible range of a requirement: the versions from its floor on that have its leading numbers.
-ghost use Rattle.std.specs.Prelude.{◌≡◌, ◌&&◌, IfErr, IfOk, option_map};
+ghost use Rattle.std.specs.Prelude.{◌≡◌, IfErr, IfOk, option_map};
 ghost use Rattle.edit_base.specs.Errors.{IsMemory};
 ghost use Rattle.edit_version.specs.Requirement.{comparators_of};
-ghost use Rattle.edit_unify.specs.Ranges.{caret_in, caret_of, is_higher, is_same_range, keeps_level, numbers_of};
+ghost use Rattle.edit_unify.specs.Ranges.{caret_in, caret_of, is_higher, kept_minor, numbers_of, range_of};
 
 use edit_base::CargoResult;
 use edit_version::{Level, read_requirement};
@@ -11,7 +11,7 @@ use std::alloc::Global;
 use std::cmp::Ordering;
 
 /// The numbers of a requirement that is one caret comparator without a pre-release.
-#[derive(Clone, Copy, Debug, PartialEq, Eq)]
+#[derive(Clone, Copy, Debug, PartialEq, Eq, PartialOrd, Ord)]
 pub(crate) struct Numbers {
     pub(crate) major: u64,
     pub(crate) minor: Option<u64>,
@@ -48,32 +48,35 @@ pub(crate) fn caret_of(alloc: Global, text: &str) -> CargoResult<Option<Numbers>
     }
 }
 
-/// Whether caret requirements with these numbers admit no version of which the other one admits no later
-/// one: their numbers are the same up to the first that is not 0.
-pub(crate) fn is_same_range(a: Numbers, b: Numbers) -> bool
-    ensures { result ≡ is_same_range (numbers_of a) (numbers_of b) }
+/// The numbers that each version has that a caret requirement with these numbers admits: those up to the
+/// first that is not 0.
+pub(crate) fn range_of(numbers: Numbers) -> Numbers
+    ensures { numbers_of result ≡ range_of (numbers_of numbers) }
 {
-    if a.major != b.major {
-        return false;
+    if numbers.major != 0 {
+        return Numbers {
+            major: numbers.major,
+            minor: None,
+            patch: None,
+        };
     }
-    if a.major != 0 {
-        return true;
-    }
-    match (a.minor, b.minor) {
-        (None, None) => true,
-        (Some(0), Some(0)) => a.patch == b.patch,
-        (Some(a), Some(b)) => a == b,
-        _ => false,
+    match numbers.minor {
+        Some(0) => numbers,
+        minor => Numbers {
+            major: 0,
+            minor,
+            patch: None,
+        },
     }
 }
 
-/// Whether floors with these numbers have the numbers in common that a level keeps.
-pub(crate) fn keeps_level(level: Option<Level>, a: Numbers, b: Numbers) -> bool
-    ensures { result ≡ keeps_level level (numbers_of a) (numbers_of b) }
+/// The minor number of a floor where the level keeps it, else 0. The major number is that of the range.
+pub(crate) fn kept_minor(level: Option<Level>, numbers: Numbers) -> u64
+    ensures { result ≡ kept_minor level (numbers_of numbers) }
 {
     match level {
-        Some(Level::Patch) => a.minor.unwrap_or(0) == b.minor.unwrap_or(0),
-        _ => true,
+        Some(Level::Patch) => numbers.minor.unwrap_or(0),
+        _ => 0,
     }
 }
 

@@ -1,10 +1,11 @@
 //! Rows with one requirement for each crate and range.
 ghost use Rattle.std.specs.Prelude.{◌≡◌, IfErr, IfOk, length, map, option_map, string_bytes};
 ghost use Rattle.edit_base.specs.Errors.{IsMemory};
+ghost use Rattle.edit_unify.specs.Groups.{text_from};
 ghost use Rattle.edit_unify.specs.Stands.{stand_view, stands_of};
-ghost use Rattle.edit_unify.specs.Unified.{AreUnified, HasOneText, IsWithText, taken_text, taken_texts};
+ghost use Rattle.edit_unify.specs.Unified.{AreUnified, HasOneText, IsWithText, taken_texts};
 
-use crate::leaders::leader;
+use crate::leaders::{Leaders, leader, leaders_of};
 use crate::stands::{Stand, stands_of};
 use edit_base::CargoResult;
 use edit_report::{Change, Row};
@@ -12,19 +13,19 @@ use edit_version::Level;
 use std::alloc::{AllocError, Global};
 
 /// The text that a row takes from another one; `None` where it keeps its own.
-fn taken_text(
+fn taken_text<'a>(
     alloc: Global,
     level: Option<Level>,
-    own: Option<Stand<'_>>,
-    stands: &[Option<Stand<'_>>],
+    own: Option<Stand<'a>>,
+    leaders: &Leaders<'a>,
 ) -> Result<Option<String>, AllocError>
     ensures { IfOk result (λ o. option_map string_bytes o
-        ≡ taken_text level (option_map stand_view own.entry) (map (option_map stand_view) stands.now)) }
+        ≡ text_from level leaders.now (option_map stand_view own.entry)) }
 {
     let Some(own) = own else {
         return Ok(None);
     };
-    match leader(level, &own, stands) {
+    match leader(level, leaders, &own) {
         Some(leader) => {
             if leader.text == own.text {
                 return Ok(None);
@@ -47,9 +48,10 @@ fn taken_texts(
     ensures error { IfErr result IsMemory }
 {
     let stands = stands_of(alloc, rows, addresses)?;
+    let leaders = leaders_of(alloc, level, &stands)?;
     let mut texts = Vec::new(alloc);
     'stands: for own in &stands {
-        let text = taken_text(alloc, level, *own, &stands)?;
+        let text = taken_text(alloc, level, *own, &leaders)?;
         texts.push(text)?;
     }
     Ok(texts)

@@ -1,12 +1,11 @@
 //! The rows that take part: each stands for a crate at a registry, with a requirement of a compatible range.
-ghost use Rattle.std.specs.Prelude.{◌≡◌, ◌&&◌, IfErr, IfOk, map, option_map, string_bytes};
+ghost use Rattle.std.specs.Prelude.{◌≡◌, IfErr, IfOk, map, option_map, string_bytes};
 ghost use Rattle.edit_base.specs.Errors.{IsMemory};
-ghost use Rattle.edit_unify.specs.Stands.{is_left_out, is_same_crate, is_together, stand_of, stand_view, stands_of};
+ghost use Rattle.edit_unify.specs.Stands.{is_left_out, stand_of, stand_view, stands_of};
 
-use crate::ranges::{Numbers, caret_of, is_same_range, keeps_level};
+use crate::ranges::{Numbers, caret_of};
 use edit_base::CargoResult;
 use edit_report::{Reason, Row};
-use edit_version::Level;
 use std::alloc::Global;
 
 /// What a row requires: a crate, the address of its registry, and the numbers of its caret requirement.
@@ -70,20 +69,4 @@ pub(crate) fn stands_of<'a>(
         stands.push(stand)?;
     }
     Ok(stands)
-}
-
-/// Whether two rows require one crate of one registry.
-pub(crate) fn is_same_crate(a: &Stand<'_>, b: &Stand<'_>) -> bool
-    ensures { result ≡ is_same_crate (stand_view a.now) (stand_view b.now) }
-{
-    a.name == b.name && a.address == b.address
-}
-
-/// Whether two rows require one crate in one compatible range, within a level of each other.
-pub(crate) fn is_together(level: Option<Level>, a: &Stand<'_>, b: &Stand<'_>) -> bool
-    ensures { result ≡ is_together level (stand_view a.now) (stand_view b.now) }
-{
-    is_same_crate(a, b)
-        && is_same_range(a.numbers, b.numbers)
-        && keeps_level(level, a.numbers, b.numbers)
 }

@@ -1,6 +1,6 @@
 use Rattle.std.proofs.Common.{◌≡◌, map, option_map, string_bytes, take}
 use Rattle.edit_unify.specs.Stands.{stand_view}
-use Rattle.edit_unify.specs.Unified.{taken_texts, taken_text}
+use Rattle.edit_unify.specs.Unified.{taken_text}
 use Rattle.edit_unify.proofs.rows.taken_texts.Given as goal
 
 -- the texts of the rows so far
