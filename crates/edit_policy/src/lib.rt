@@ -15,7 +15,7 @@ mod values;
 pub use error::PolicyError;
 pub use holds::{has_hold, passes_holds};
 pub use keys::Expected;
-pub use manifest::manifest_policy;
+pub use manifest::{document_policy, manifest_policy};
 pub use merge::{Choices, GivenChoices, copy_texts, merge_choices, merge_excluded};
 pub use place::policy_place;
 pub use policy::{CratePolicy, Hold, Policy};

@@ -8,8 +8,9 @@ use edit_base::Error;
 use edit_document::Document;
 use std::alloc::Global;
 
-/// The policy of a document, whose form is known.
-fn document_policy(alloc: Global, document: &Document) -> Result<Policy, PolicyError>
+/// Reads the policy in the document of a root manifest, as `Policy::of_manifest` does, and describes it by the
+/// bytes of the document.
+pub fn document_policy(alloc: Global, document: &Document) -> Result<Policy, PolicyError>
     ensures policy { IfOk result (IsManifestPolicy document.now.bytes) }
     ensures error { IfErr result (IsManifestFault document.now.bytes) }
 {
@@ -17,8 +18,8 @@ fn document_policy(alloc: Global, document: &Document) -> Result<Policy, PolicyE
     Policy::of_manifest(alloc, document)
 }
 
-/// Reads the policy in the bytes of a root manifest, as `Policy::of_manifest` does. It says nothing where the
-/// bytes are no TOML document.
+/// Reads the policy in the bytes of a root manifest, as `document_policy` does of their document. It says
+/// nothing where the bytes are no TOML document.
 pub fn manifest_policy(alloc: Global, bytes: &[u8]) -> Result<Policy, PolicyError>
     ensures policy { IfOk result (IsManifestPolicy bytes.now) }
     ensures error { IfErr result (IsManifestFault bytes.now) }

@@ -1,6 +1,6 @@
 -- The policy that an upgrade follows, from its steps.
-use Rattle.std.proofs.Common.{◌≡◌, ◌∙◌, ℕ, Bor, List, Option, ap, inl, inr, length, map, subst, sym, true}
-use Rattle.std.specs.Prelude.{◌⊎◌, option_copied, option_map}
+use Rattle.std.proofs.Common.{◌≡◌, ◌∙◌, ℕ, Bor, List, [], ◌∷◌, None, Option, ap, get_or, inl, inr, length, map, subst, sym, true}
+use Rattle.std.specs.Prelude.{◌⊎◌, option_copied, option_map, slice_get}
 use Rattle.std.proofs.lemmas.List.{length-map}
 use Rattle.edit_base.specs.Errors.{IsMemory, number_of}
 use Rattle.edit_base.specs.declared.errors.DeviceCall.TheVariants as call
@@ -30,7 +30,7 @@ use Rattle.edit_tree.specs.DocumentViews.{DocumentViews}
 use Rattle.edit_version.specs.declared.rust_version.RustVersion.{RustVersion}
 use Rattle.edit_program.proofs.CountLemmas.{error_counts, memory_counts}
 use Rattle.edit_program.proofs.UpgradeLemmas.{same_workspace}
-use Rattle.edit_program.specs.Followed.{AreForRust, AreOverIndex, HasBadPolicy, HasPolicyFault, HasRoot, IsUnfollowed, with_index}
+use Rattle.edit_program.specs.Followed.{AreForRust, AreOverIndex, HasBadPolicy, HasPolicyFault, HasRoot, IsParsedFrom, IsUnfollowed, with_index}
 use Rattle.edit_program.specs.LockRead.{HasNoLock}
 use Rattle.edit_program.specs.Planned.{to_manifest_request}
 use Rattle.edit_program.specs.Reading.{IsRead}
@@ -45,6 +45,28 @@ root_of target lent inputs root is same found =
     subst (λ (xs : List Input). IsRoot (option_map workspace_view target.workspace) xs root) same
     (subst (λ (w : Option WorkspaceModel). IsRoot w inputs root) (same_workspace lent target.workspace is)
     found)
+
+-- the first document is that of the first manifest, where all documents are those of manifests
+first_parsed : (documents : List DocumentViews) (inputs : List Input) → AreDocuments documents inputs
+    → IsParsedFrom (slice_get inputs 0) (slice_get documents 0)
+first_parsed [] [] are = tt
+first_parsed [] (input ∷ inputs) are = tt
+first_parsed (document ∷ documents) [] are = tt
+first_parsed (document ∷ documents) (input ∷ inputs) (inl none) = cc none
+first_parsed (document ∷ documents) (input ∷ inputs) (inr same) = ap (λ bytes. get_or bytes 0 []) same
+
+-- without metadata, the first document is that of the manifest in the root
+pub root_parsed : (target : Target) (documents : List DocumentViews) (first : Option DocumentViews)
+    (root : Option Input) → target.workspace ≡ None → documents ≡ target.documents.items
+    → first ≡ slice_get documents 0 → AreDocuments target.documents.items target.inputs.items
+    → HasRoot target root → IsParsedFrom root first
+root_parsed target documents first root single all head are is =
+    let found : root ≡ slice_get target.inputs.items 0
+    = subst (λ w. IsRoot (option_map workspace_view w) target.inputs.items root) single is in
+    let begins : first ≡ slice_get target.documents.items 0 = head ∙ ap (λ ds. slice_get ds 0) all in
+    subst (λ document. IsParsedFrom root document) (sym begins)
+    (subst (λ input. IsParsedFrom input (slice_get target.documents.items 0)) (sym found)
+    (first_parsed target.documents.items target.inputs.items are))
 
 -- an error of a policy is not the device's
 pub fault_counts : {P : Type 0} (bytes : List ℕ) (own : PolicyError) (e : Error) → IsManifestFault bytes own

@@ -1,5 +1,5 @@
 -- The policy that an upgrade follows, and what it changes.
-use Rattle.std.specs.Prelude.{◌≡◌, ◌⊎◌, ℕ, List, Bool, true, false, Option, Some, None, option_map}
+use Rattle.std.specs.Prelude.{◌≡◌, ◌⊎◌, ℕ, List, Bool, true, false, Option, Some, None, option_map, ⊤}
 use Rattle.edit_base.specs.declared.errors.Error.{Error}
 use Rattle.edit_base.specs.declared.errors.Error.TheVariants as error
 use Rattle.edit_lock.specs.Views.{lock_view}
@@ -21,6 +21,7 @@ use Rattle.edit_steps.specs.declared.upgrade_read.source_request.RustChoice.TheV
 use Rattle.edit_steps.specs.declared.upgrade_read.sources.Sources.{Sources}
 use Rattle.edit_steps.specs.declared.upgrade_read.target.Target.{Target}
 use Rattle.edit_store.specs.Store.{Files}
+use Rattle.edit_tree.specs.DocumentViews.{DocumentViews}
 use Rattle.edit_version.specs.declared.rust_version.RustVersion.{RustVersion}
 use Rattle.edit_program.specs.LockRead.{IsLockRead}
 use Rattle.edit_program.specs.Merging.{IsBoundBy, IsMerged, LacksTime}
@@ -37,6 +38,12 @@ HasRoot target root = IsRoot (option_map workspace_view target.workspace) target
 abbrev pub IsPolicyIn : Option Input → Policy → Type 0
 IsPolicyIn None p = IsEmpty p
 IsPolicyIn (Some root) p = IsManifestPolicy root.bytes.items p
+
+-- the document is that of the manifest, where there are both
+abbrev pub IsParsedFrom : Option Input → Option DocumentViews → Type 0
+IsParsedFrom None d = ⊤
+IsParsedFrom (Some root) None = ⊤
+IsParsedFrom (Some root) (Some d) = d.bytes ≡ root.bytes.items
 
 -- the policy of the manifest in the root
 abbrev pub IsRootPolicy : Target → Policy → Type 0

@@ -23,7 +23,7 @@ returns-clause-follows c = record {
 }
 
 pub returns-clause-planned : goal.returns-clause-planned
-returns-clause-planned c = c.in_ok-sources.ensures.planned
+returns-clause-planned c = c.in_ok-sources.ensures.planned c.requires.planned
 
 pub returns-in_err-policy-clause-error : goal.returns-in_err-policy-clause-error
 returns-in_err-policy-clause-error c =

@@ -81,7 +81,7 @@ returns-clause-ready g c =
 
 pub returns-clause-planned : goal.returns-clause-planned
 returns-clause-planned g c =
-    c.over_index.ensures.planned (c.in_ok-readings.ensures.planned c.in_ok-own.ensures.planned)
+    c.over_index.ensures.planned c.in_ok-readings.ensures.planned
 
 pub returns-clause-error : goal.returns-clause-error
 returns-clause-error g c =
