@@ -11,6 +11,7 @@ PLUMBING = {"--metadata-json", "--index-file", "--index-dir", "--lock-file", "--
 TEXTS = {
     ("upgrade", "--manifest-path"): "The workspace of this manifest; without it that of the current folder",
     ("upgrade", "--update-calls"): "Writes the calls of `cargo update` that are made to this file",
+    ("upgrade", "--interactive"): "Shows what would change as numbered rows, and asks which ones to change",
     ("upgrade", "--locked"): "Stops with an error where a manifest or Cargo.lock would change",
     ("upgrade", "--offline"): "Fetches nothing: cached index entries are used",
     ("set-version", "--manifest-path"): "The workspace of this manifest; without it that of the current folder",

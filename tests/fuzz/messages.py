@@ -12,12 +12,13 @@ MEMBERS = {
                     "latest": MAYBE, "new": MAYBE, "why": WHY, "change": CHANGE},
     "upgrade-warning": {"manifest_path": TEXT, "message": TEXT},
     "upgrade-file": {"manifest_path": TEXT, "written": TRUTH},
+    "upgrade-held-back": {"younger": TEXTS, "undated": TEXTS, "registries_without_times": TEXTS},
     "upgrade-summary": {"dry_run": TRUTH, "modified": TEXTS, "git_crates": TEXTS, "missing": TEXTS,
                         "pinned_present": TRUTH,
                         "incompatible_present": TRUTH, "update_calls": CALLS},
     "set-version-change": {"action": ("Upgrading", "Updating"), "message": TEXT},
 }
-ORDER = {"upgrade": ("upgrade-row", "upgrade-warning", "upgrade-file", "upgrade-summary"),
+ORDER = {"upgrade": ("upgrade-row", "upgrade-warning", "upgrade-file", "upgrade-held-back", "upgrade-summary"),
          "set-version": ("set-version-change",)}
 
 
@@ -70,5 +71,6 @@ def faults(command, messages):
     order = [reasons.index(message["reason"]) for message in messages if message.get("reason") in reasons]
     if order != sorted(order):
         yield "messages out of their order"
-    if command == "upgrade" and order.count(3) != 1:
-        yield f"{order.count(3)} summaries"
+    summaries = sum(message.get("reason") == "upgrade-summary" for message in messages)
+    if command == "upgrade" and summaries != 1:
+        yield f"{summaries} summaries"

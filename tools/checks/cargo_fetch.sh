@@ -68,6 +68,7 @@ row_min_age() {
   run 0 upgrade --min-age 14
   has Cargo.toml 'dep = "1.2"'
   has Cargo.toml 'other = "0.2.0"'
+  says 'note: younger versions were held back for 1 crate: other'
   whole
   run 0 upgrade -n --offline
   grep -q -E '^other +0\.2\.0 .* 0\.2\.5 ' "$room/out" || fail 'without --min-age the table has no other'

@@ -265,6 +265,18 @@ def metadata():
     upgrade(37, "Error: Two members share the folder %s/m1" % WORKSPACE, "  at @/m.json\n")
 
 
+def policies():
+    """Policies with an unknown key, or with a value that is not what its key has to be."""
+    table = "[workspace.metadata.cargo-edit]\n"
+    first = "Error: Invalid policy"
+    workspace(root=table + "pinned = true\n")
+    cause = '  cause: `workspace.metadata.cargo-edit.pinned` has to be "allow" or "ignore"\n'
+    upgrade(50, first, "  at @/Cargo.toml:2:10\n", cause, "  help: `--no-policy` ignores the policy\n")
+    workspace(root=table + "never_lower = true\n")
+    cause = "  cause: `workspace.metadata.cargo-edit.never_lower` is not a key of a policy\n"
+    upgrade(50, first, "  at @/Cargo.toml:2:15\n", cause, "  help: a policy has the keys ")
+
+
 def deliveries():
     """Plans that are made but not applied."""
     workspace(entries('q = "1.0"\n'))
@@ -287,9 +299,9 @@ def deliveries():
     upgrade(46, "Error: out of memory", limit=30000)
 
 
-for part in (manifests, versions, registries, index_entries, metadata, deliveries):
+for part in (manifests, versions, registries, index_entries, metadata, policies, deliveries):
     part()
-missing = sorted(set(range(1, 50)) - seen - set(NOT_SHOWN))
+missing = sorted(set(range(1, 51)) - seen - set(NOT_SHOWN))
 if missing:
     failures.append("errors that nothing provokes: %s" % missing)
 shutil.rmtree(ROOM)

@@ -15,9 +15,9 @@ import tempfile
 ROOT = pathlib.Path(__file__).resolve().parents[2]
 COMMANDS = {"upgrade", "set-version"}
 # options with a value, with an optional value, and without one
-VALUED = {"package", "exclude", "rust-version", "level", "published-before", "min-age", "now", "bump", "metadata"}
+VALUED = {"package", "exclude", "rust-version", "level", "rows", "published-before", "min-age", "now", "bump", "metadata"}
 OPTIONAL = {"compatible", "incompatible", "pinned", "recursive"}
-FLAGS = {"never-lower", "to-lockfile", "locked", "offline", "workspace", "all", "ignore-rust-version"}
+FLAGS = {"never-lower", "to-lockfile", "unify", "no-policy", "locked", "offline", "workspace", "all", "ignore-rust-version"}
 SHORT = {"-p": "--package", "-i": "--incompatible", "-m": "--metadata"}
 # the options that name the texts of a request
 FILES = {"metadata-json": "metadata", "index-file": "index", "lock-file": "lock"}

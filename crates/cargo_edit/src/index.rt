@@ -2,4 +2,4 @@
 
 pub use edit_cache::{IndexCache, Ranked};
 pub use edit_sources::index_dir::DirIndex;
-pub use edit_sources::{FileIndex, Index, IndexKrate, LocalIndex, is_crate_name};
+pub use edit_sources::{FileIndex, Index, IndexKrate, LocalIndex, Withheld, is_crate_name};

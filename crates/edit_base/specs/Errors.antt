@@ -1,7 +1,7 @@
 -- The errors by their numbers.
 use Rattle.std.specs.Prelude.{◌≡◌, ℕ}
 use Rattle.edit_base.specs.declared.errors.Error.{Error}
-use Rattle.edit_base.specs.declared.errors.Error.TheVariants.{NotToml, NotUtf8, Device, NotAbsolute, NoManifest, NoPath, ManifestNotFound, NoTable, NoDependency, MissingVersion, VersionNotString, InvalidDependency, NoVersionPlace, InvalidRequirement, Unsupported, ReleaseLevel, PrereleaseScheme, NumberAtEnd, InvalidMetadata, InvalidName, InvalidType, WorkspaceFalse, UnknownSource, OldDefaultFeatures, UnknownEntry, BadRustVersion, Scheme, IndexPath, BadCrateName, IndexLine, Config, RegistryNotFound, SourceNotFound, MissingRegistry, InvalidUrl, Metadata, FolderTwice, VirtualManifest, PackagesMissing, CannotExclude, Downgrade, Locked, DependenciesMissing, Merged, Output, Memory, CommandLine, Io, EditRefused}
+use Rattle.edit_base.specs.declared.errors.Error.TheVariants.{NotToml, NotUtf8, Device, NotAbsolute, NoManifest, NoPath, ManifestNotFound, NoTable, NoDependency, MissingVersion, VersionNotString, InvalidDependency, NoVersionPlace, InvalidRequirement, Unsupported, ReleaseLevel, PrereleaseScheme, NumberAtEnd, InvalidMetadata, InvalidName, InvalidType, WorkspaceFalse, UnknownSource, OldDefaultFeatures, UnknownEntry, BadRustVersion, Scheme, IndexPath, BadCrateName, IndexLine, Config, RegistryNotFound, SourceNotFound, MissingRegistry, InvalidUrl, Metadata, FolderTwice, VirtualManifest, PackagesMissing, CannotExclude, Downgrade, Locked, DependenciesMissing, Merged, Output, Memory, CommandLine, Io, EditRefused, Policy}
 
 -- the number of an error
 abbrev pub number_of : Error → ℕ
@@ -54,6 +54,7 @@ number_of Memory = 46
 number_of (CommandLine _) = 47
 number_of (Io _) = 48
 number_of EditRefused = 49
+number_of Policy = 50
 
 -- memory ran out
 abbrev pub IsMemory : Error → Type 0

@@ -193,12 +193,14 @@ pub enum Error {
     Io(io::Error),
     #[error("Edit would change more than its place")]
     EditRefused,
+    #[error("Invalid policy")]
+    Policy,
 }
 
 impl Error {
     ghost use Rattle.edit_base.specs.Errors.{number_of};
 
-    /// The number of the error, from 1 to 49.
+    /// The number of the error, from 1 to 50.
     pub fn number(&self) -> u32
         ensures { result ≡ number_of self.now }
     {
@@ -252,6 +254,7 @@ impl Error {
             Error::CommandLine(_) => 47,
             Error::Io(_) => 48,
             Error::EditRefused => 49,
+            Error::Policy => 50,
         }
     }
 }

@@ -54,9 +54,17 @@ fn flag_text(is_given: bool, flag: &'static str) -> &'static str {
     if is_given { flag } else { "" }
 }
 
-/// Whether an age is given, and no time from which it counts back.
-fn needs_now(matches: &ArgMatches<'_>) -> bool {
-    matches.get_str("min-age").is_some() && matches.get_str("now").is_none()
+/// Whether the script gives the time, from which an age that is given or that the policy sets counts back.
+fn needs_clock(subcommand: &str, matches: &ArgMatches<'_>) -> bool {
+    subcommand == "upgrade" && matches.get_str("now").is_none()
+}
+
+/// Whether the script reads which rows to change: with `--interactive`, unless they are given.
+fn asks(matches: &ArgMatches<'_>) -> bool {
+    let interactive = matches
+        .get_str("interactive")
+        .is_some_and(|given| given == "true");
+    interactive && matches.get_str("rows").is_none()
 }
 
 /// The value of `--color` as cargo takes it; empty where it is not given, or has another value.
@@ -69,8 +77,12 @@ fn color_text(color: Option<&str>) -> &'static str {
     }
 }
 
-/// Appends the assignments of parsed arguments.
-fn push_options(text: &mut Vec<u8>, matches: &ArgMatches<'_>) -> Result<(), AllocError> {
+/// Appends the assignments of a subcommand's parsed arguments.
+fn push_options(
+    text: &mut Vec<u8>,
+    subcommand: &str,
+    matches: &ArgMatches<'_>,
+) -> Result<(), AllocError> {
     let dry = matches.get_flag("dry-run") || matches.get_flag("check");
     push_assignment(text, "action", action_of(matches).text())?;
     push_assignment(
@@ -90,8 +102,10 @@ fn push_options(text: &mut Vec<u8>, matches: &ArgMatches<'_>) -> Result<(), Allo
         flag_text(matches.get_flag("offline"), "--offline"),
     )?;
     push_assignment(text, "dry", flag_text(dry, "yes"))?;
-    push_assignment(text, "age", flag_text(needs_now(matches), "yes"))?;
-    push_assignment(text, "color", color_text(matches.get_str("color")))
+    let clock = needs_clock(subcommand, matches);
+    push_assignment(text, "clock", flag_text(clock, "yes"))?;
+    push_assignment(text, "color", color_text(matches.get_str("color")))?;
+    push_assignment(text, "ask", flag_text(asks(matches), "yes"))
 }
 
 /// The arguments of a subcommand, with metadata in place of those that the script adds.
@@ -126,8 +140,8 @@ fn write_options<O: io::Write, E: io::Write>(
     let mut text = Vec::new(alloc);
     match parse_args(alloc, &args) {
         Ok(matches) => {
-            if let Some((_, matches)) = matches.subcommand() {
-                push_options(&mut text, matches)?;
+            if let Some((name, matches)) = matches.subcommand() {
+                push_options(&mut text, name, matches)?;
             }
         }
         Err(error) => match error.kind() {

@@ -6,6 +6,7 @@ mod delivery;
 mod entries;
 mod index_files;
 mod members;
+mod policy;
 mod registries;
 mod requirements;
 mod same;
@@ -15,6 +16,7 @@ mod suggestions;
 mod upgrade;
 
 pub use delivery::explain_delivery;
+pub use policy::{explain_age, explain_policy};
 pub use set_version::explain_set_version;
 pub use suggestions::nearest_name;
 pub use upgrade::explain_upgrade;

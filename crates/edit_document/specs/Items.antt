@@ -37,6 +37,11 @@ abbrev pub truth_in : View → Option Bool
 truth_in (truth b) = Some b
 truth_in _ = None
 
+-- the text of an integer as it is written; none for other views
+abbrev pub digits_in : View → Option (List ℕ)
+digits_in (whole digits) = Some digits
+digits_in _ = None
+
 -- the key of a step, if it has one
 abbrev pub name_of_step : Step → Option (List ℕ)
 name_of_step (key n) = Some n
@@ -107,7 +112,7 @@ node_view d n = viewed (tree_of d (node_place d n))
 abbrev pub Shows : View → Datum → Type 0
 Shows (string bytes) (seen.Text s) = s.now ≡ bytes
 Shows (truth b) (seen.Truth c) = c ≡ b
-Shows (whole digits) seen.Integer = ⊤
+Shows (whole digits) (seen.Integer s) = s.now ≡ digits
 Shows (fractional digits) seen.Float = ⊤
 Shows (moment digits) seen.DateTime = ⊤
 Shows (static_array n) seen.Array = ⊤

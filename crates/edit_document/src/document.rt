@@ -15,7 +15,7 @@ use crate::item::Item;
 use edit_base::errors::CargoResult;
 use edit_syntax::read::tokenize;
 use edit_tree::Step;
-use edit_tree::nodes::{Content, Node, decoded_str};
+use edit_tree::nodes::{Content, Node, decoded_str, span_text};
 use edit_tree::walk::nodes_of;
 use std::alloc::Global;
 use std::fmt;
@@ -47,7 +47,8 @@ impl Model for Document {
 pub(crate) enum Datum<'a> {
     Text(&'a str),
     Truth(bool),
-    Integer,
+    /// An integer as it is written.
+    Integer(&'a str),
     Float,
     DateTime,
     Array,
@@ -96,7 +97,7 @@ impl Document {
         match &node.content {
             Content::Text(decoded) => Datum::Text(decoded_str(self.text.as_str(), decoded)),
             Content::Truth(truth) => Datum::Truth(*truth),
-            Content::Integer(_) => Datum::Integer,
+            Content::Integer(span) => Datum::Integer(span_text(self.text.as_str(), *span)),
             Content::Float(_) => Datum::Float,
             Content::DateTime(_) => Datum::DateTime,
             Content::Array => Datum::Array,

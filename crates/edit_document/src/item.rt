@@ -110,7 +110,7 @@ impl<'a> Item<'a> {
     }
 
     /// The content of the item, without its members.
-    fn datum(self) -> Datum<'a>
+    pub(crate) fn datum(self) -> Datum<'a>
         ensures { Shows (view_of self.entry) result }
     {
         match self.source {
@@ -126,7 +126,7 @@ impl<'a> Item<'a> {
         match self.datum() {
             Datum::Text(text) => Some(text),
             Datum::Truth(_) | Datum::Inline | Datum::Table | Datum::Tables => None,
-            Datum::Integer | Datum::Float | Datum::DateTime | Datum::Array => None,
+            Datum::Integer(_) | Datum::Float | Datum::DateTime | Datum::Array => None,
         }
     }
 
@@ -137,7 +137,7 @@ impl<'a> Item<'a> {
         match self.datum() {
             Datum::Truth(truth) => Some(truth),
             Datum::Text(_) | Datum::Inline | Datum::Table | Datum::Tables => None,
-            Datum::Integer | Datum::Float | Datum::DateTime | Datum::Array => None,
+            Datum::Integer(_) | Datum::Float | Datum::DateTime | Datum::Array => None,
         }
     }
 
@@ -149,7 +149,7 @@ impl<'a> Item<'a> {
     {
         match self.datum() {
             Datum::Text(_) | Datum::Truth(_) | Datum::Inline | Datum::Table | Datum::Tables => None,
-            Datum::Integer | Datum::Float | Datum::DateTime => None,
+            Datum::Integer(_) | Datum::Float | Datum::DateTime => None,
             Datum::Array => Some(self),
         }
     }
@@ -221,7 +221,7 @@ impl<'a> Item<'a> {
         match self.datum() {
             Datum::Text(_) => true,
             Datum::Truth(_) | Datum::Inline | Datum::Table | Datum::Tables => false,
-            Datum::Integer | Datum::Float | Datum::DateTime | Datum::Array => false,
+            Datum::Integer(_) | Datum::Float | Datum::DateTime | Datum::Array => false,
         }
     }
 
@@ -231,7 +231,7 @@ impl<'a> Item<'a> {
     {
         match self.datum() {
             Datum::Text(_) | Datum::Truth(_) | Datum::Tables => false,
-            Datum::Integer | Datum::Float | Datum::DateTime | Datum::Array => false,
+            Datum::Integer(_) | Datum::Float | Datum::DateTime | Datum::Array => false,
             Datum::Inline | Datum::Table => true,
         }
     }
@@ -243,7 +243,7 @@ impl<'a> Item<'a> {
         match self.datum() {
             Datum::Inline => true,
             Datum::Text(_) | Datum::Truth(_) | Datum::Table | Datum::Tables => false,
-            Datum::Integer | Datum::Float | Datum::DateTime | Datum::Array => false,
+            Datum::Integer(_) | Datum::Float | Datum::DateTime | Datum::Array => false,
         }
     }
 
@@ -255,7 +255,7 @@ impl<'a> Item<'a> {
         match self.datum() {
             Datum::Text(_) => "string",
             Datum::Truth(_) => "boolean",
-            Datum::Integer => "integer",
+            Datum::Integer(_) => "integer",
             Datum::Float => "float",
             Datum::DateTime => "datetime",
             Datum::Array => "array",

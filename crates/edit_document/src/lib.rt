@@ -5,6 +5,7 @@
 mod content;
 pub mod document;
 mod entry_part;
+mod integer;
 pub mod item;
 mod literal;
 pub mod new_item;

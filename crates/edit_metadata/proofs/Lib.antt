@@ -4,6 +4,7 @@ pub mod Ids
 pub mod InputLemmas
 mod InputRows
 pub mod MemberPaths
+pub mod RustInputs
 pub mod UniqueWorkspaces
 pub mod Values
 pub mod Zipped

@@ -148,7 +148,7 @@ fn has_path(inputs: &[Input], path: &str) -> bool
 }
 
 /// The normalised path of the manifest in the root of the workspace.
-fn root_path(alloc: Global, workspace: &Workspace) -> CargoResult<String>
+pub(crate) fn root_path(alloc: Global, workspace: &Workspace) -> CargoResult<String>
     ensures path { IfOk result (λ s. IsNormalOf (root_manifest (workspace_view workspace.now)).path
         (string_bytes s)) }
     ensures error { IfErr result IsMemory }

@@ -1,10 +1,15 @@
 -- The values of an option in parsed arguments.
 use Rattle.std.proofs.Common.{◌≡◌, ℕ, Bool, List, Option, Some, None, Result, Ok, Err, Bor, ap, codes, false, map, refl, subst, true, ◌∙◌, sym}
-use Rattle.std.specs.Prelude.{[], IfErr, IsErrAnd, if◌then◌else◌, is_some, option_map, unwrap_or}
+use Rattle.std.specs.Prelude.{[], IfErr, IsErrAnd, find, if◌then◌else◌, is_some, option_and_then, option_map, unwrap_or}
 use Rattle.std.specs.Option.{option_map_or}
+use Rattle.std.specs.Str.{bytes_eq}
 use Rattle.clap.specs.Words.{Text, first_value, first_of, found_of, matched_of, raw_values, rows_of}
+use Rattle.clap.specs.Facts.{Entry}
+use Rattle.clap.specs.Walk.{Row, row_of}
 use Rattle.clap.specs.declared.parser.ArgMatches.{ArgMatches}
-use Rattle.clap.proofs.WalkLemmas.{first_value-rows, raw_values-rows}
+use Rattle.clap.specs.declared.parser.matches.Found.{Found}
+use Rattle.clap.specs.declared.parser.matches.MatchedArg.{MatchedArg}
+use Rattle.clap.proofs.WalkLemmas.{find_row, first_value-rows, raw_values-rows}
 use Rattle.edit_program.specs.ParsedOptions.{value_of, values_of}
 use Rattle.edit_program.specs.Presented.{has_color, is_color}
 
@@ -85,6 +90,19 @@ pub is_there : (m : ArgMatches) (id : Text) (o : Option (Bor (List ℕ)))
     → option_map (λ (s : Bor (List ℕ)). s.now) o ≡ first_value (found_of m) id
     → is_some o ≡ is_some (first_of id (rows_of (found_of m)))
 is_there m id o found = some_map o ∙ ap is_some (found ∙ first_value-rows (found_of m) id)
+
+-- where the value of an option comes from, by the rows of the matches
+pub source-rows : (f : Found) (id : Text)
+    → option_and_then (λ (a : MatchedArg). a.source) (matched_of f id)
+    ≡ option_and_then (λ (r : Row). r.source) (find (λ r. bytes_eq r.id id) (rows_of f))
+source-rows f id =
+    go (find (λ (e : Entry). bytes_eq e.0.now id) f.entries.items)
+    ∙ ap (option_and_then (λ (r : Row). r.source)) (sym (find_row f.entries.items id))
+  where
+    go : (o : Option Entry) → option_and_then (λ (a : MatchedArg). a.source) (option_map (λ e. e.1) o)
+        ≡ option_and_then (λ (r : Row). r.source) (option_map row_of o)
+    go None = refl
+    go (Some e) = refl
 
 -- what holds of an error holds of the one that a caller hands on
 pub err_same : {T E : Type 0} (r : Result T E) (e : E) (P : E → Type 0)

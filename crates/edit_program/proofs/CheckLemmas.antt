@@ -8,10 +8,11 @@ use Rattle.edit_report.specs.declared.output.Output.{Output}
 use Rattle.edit_program.specs.SetVersions.{AreVersionsSet, outputs_to_write}
 use Rattle.edit_program.specs.declared.set_version_run.set_version_args.SetVersionArgs.{SetVersionArgs}
 use Rattle.edit_store.specs.Store.{SameFiles, StoreView}
-use Rattle.edit_program.specs.Upgrading.{IsUpgraded, delivery_by}
+use Rattle.edit_program.specs.Upgrading.{IsUpgraded, delivery_for}
+use Rattle.edit_program.specs.declared.upgrade_run.following.Readings.{Readings}
 use Rattle.edit_program.specs.declared.upgrade_run.upgrade_args.UpgradeArgs.{UpgradeArgs}
 use Rattle.edit_program.proofs.DryRuns.{dry_keeps}
-use Rattle.edit_program.specs.ParsedOptions.{is_dry, is_given}
+use Rattle.edit_program.specs.ParsedOptions.{is_dry, is_given, lists_rows}
 use Rattle.edit_program.specs.Presented.{status_after}
 use Rattle.edit_program.specs.Run.{Run}
 
@@ -25,16 +26,16 @@ pub small_after : (rows : List Row) (due : Bool) (s : ℕ) → s ≡ status_afte
 small_after rows due s is = small_by (is_given (codes "check") rows) due s is
 
 -- at status 1 nothing was to be written
-dry_by : (dry input_report due : Bool) (s : ℕ) → s ≡ (if input_report && due then 1 else 0) → s ≡ 1
-    → (dry || input_report) ≡ true
-dry_by true input_report due s is one = refl
-dry_by false true due s is one = refl
-dry_by false false due s is one = let bad : 1 ≡ 0 = sym one ∙ is in absurd (omega (arith, bad))
+dry_by : (dry input_report lists due : Bool) (s : ℕ) → s ≡ (if input_report && due then 1 else 0) → s ≡ 1
+    → (dry || (input_report || lists)) ≡ true
+dry_by true input_report lists due s is one = refl
+dry_by false true lists due s is one = refl
+dry_by false false lists due s is one = let bad : 1 ≡ 0 = sym one ∙ is in absurd (omega (arith, bad))
 
 pub dry_after : (rows : List Row) (due : Bool) (s : ℕ) → s ≡ status_after rows due → s ≡ 1
     → is_dry rows ≡ true
 dry_after rows due s is one =
-    dry_by (is_given (codes "dry-run") rows) (is_given (codes "check") rows) due s is one
+    dry_by (is_given (codes "dry-run") rows) (is_given (codes "check") rows) (lists_rows rows) due s is one
 
 -- and the check is requested
 check_by : (input_report due : Bool) (s : ℕ) → s ≡ (if input_report && due then 1 else 0) → s ≡ 1
@@ -51,7 +52,9 @@ pub dry_upgrade : (due : Bool) (HasFields HasDecodedValue : List ℕ → Type 0)
     → args.options.dry_run ≡ true → IsUpgraded due HasFields HasDecodedValue args run
     → SameFiles run.old.file_at run.new.file_at
 dry_upgrade due HasFields HasDecodedValue args run dry h =
-    dry_keeps HasFields (delivery_by args run.current h.plan h.sources.target h.path h.lock) run.old run.new dry
+    let same : h.readings.args.options.dry_run ≡ args.options.dry_run =
+    ap (λ (r : Readings). r.args.options.dry_run) h.ready.over.same ∙ h.ready.follows.merged.options.dry_run in
+    dry_keeps HasFields (delivery_for h.readings run.current h.plan h.apart h.path) run.old run.new (same ∙ dry)
     h.ends.delivered.printed
 
 nothing_written : (outputs : List Output) (old new : StoreView) → outputs ≡ [] → AreWritten outputs old new

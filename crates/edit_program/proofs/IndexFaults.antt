@@ -4,9 +4,9 @@ use Rattle.std.proofs.lemmas.Result.{IfErr-weaker}
 use Rattle.std.specs.Prelude.{IfErr, String, string_bytes}
 use Rattle.std.specs.declared.alloc.Global.{Global}
 use Rattle.edit_base.specs.declared.errors.Error.{Error}
-use Rattle.edit_locked_index.proofs.RestrictedLemmas.{same_faults}
-use Rattle.edit_locked_index.specs.LockedIndex.{index_of, tests_of, view_of}
-use Rattle.edit_locked_index.specs.declared.locked_index.LockedIndex.{LockedIndex}
+use Rattle.edit_restricted_index.proofs.RestrictedLemmas.{same_faults}
+use Rattle.edit_restricted_index.specs.RestrictedIndex.{index_of, test_in, view_of}
+use Rattle.edit_restricted_index.specs.declared.restricted_index.RestrictedIndex.{RestrictedIndex}
 use Rattle.edit_sources.specs.DirIndex.{dir_view, folder_of}
 use Rattle.edit_sources.specs.DirIndex.{bound_of as folder_bound, files_of as folder_files, store_of as folder_store}
 use Rattle.edit_sources.specs.FileIndex.{file_view}
@@ -41,16 +41,17 @@ store_fails {I} {T} view index files store store_of e same is counts device =
     )
 
 -- a restricted index fails only where the index below it does
-pub locked_fault : {I : Type 0} (view : I → IndexView) (locked : LockedIndex I) (index : I) (e : Error)
-    → index_of locked ≡ index → CountsIndexFault (view_of view) locked e → CountsIndexFault view index e
-locked_fault {I} view locked index e is counts device =
+pub restricted_fault : {I : Type 0} (view : I → IndexView) (restricted : RestrictedIndex I) (index : I)
+    (e : Error) → index_of restricted ≡ index → CountsIndexFault (view_of view) restricted e
+    → CountsIndexFault view index e
+restricted_fault {I} view restricted index e is counts device =
     let failed = counts device in
     let after = index_of failed.0 in
-    let old = same_faults (tests_of locked) (view (index_of locked)) in
-    let new = same_faults (tests_of failed.0) (view after) in
-    let raised : IsRaisedCount (view (index_of locked)).faults (view after).faults =
+    let old = same_faults (test_in restricted) (view (index_of restricted)) in
+    let new = same_faults (test_in failed.0) (view after) in
+    let raised : IsRaisedCount (view (index_of restricted)).faults (view after).faults =
     subst (λ (n : ℕ). IsRaisedCount n (view after).faults) old
-    (subst (λ (n : ℕ). IsRaisedCount (view_of view locked).faults n) new failed.1) in
+    (subst (λ (n : ℕ). IsRaisedCount (view_of view restricted).faults n) new failed.1) in
     (after, subst (λ (i : I). IsRaisedCount (view i).faults (view after).faults) is raised)
 
 -- a plan over the index in files

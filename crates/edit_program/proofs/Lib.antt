@@ -1,4 +1,6 @@
 pub mod AbsentLemmas
+mod NameListLemmas
+mod HeldBackNoteLemmas
 pub mod ArgsLemmas
 pub mod CheckLemmas
 pub mod CommandCases
@@ -14,6 +16,10 @@ pub mod LockLemmas
 pub mod LookupLemmas
 mod StagingLemmas
 pub mod UpgradeLemmas
+pub mod UpgradeCauseLemmas
+mod RevisionLemmas
+mod PlannedRowLemmas
+mod RevisedOrderLemmas
 pub mod PrintedLemmas
 pub mod SetVersionLemmas
 pub mod CopyLemmas
@@ -22,3 +28,4 @@ pub mod DryRuns
 mod NameLemmas
 mod NoteLemmas
 mod PartLemmas
+mod PolicyLemmas

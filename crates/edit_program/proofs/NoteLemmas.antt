@@ -10,7 +10,10 @@ use Rattle.edit_upgrade.specs.declared.decision.options.Options.{Options}
 use Rattle.edit_report.specs.declared.row.Row.{Row}
 use Rattle.edit_upgrade.specs.declared.upgrade.UpgradePlan.{UpgradePlan}
 use Rattle.edit_program.specs.Absent.{absent_note}
+use Rattle.edit_program.specs.HeldBackNotes.{held_back_notes}
+use Rattle.edit_program.specs.NameLists.{list_note}
 use Rattle.edit_program.specs.StderrText.{hidden_rows, hidden_note, hidden_text, note, notes, reason_line, warning, message_if}
+use Rattle.edit_program.specs.declared.upgrade_output.name_lists.Noun.TheVariants.{Crate}
 
 -- the line of one reason more
 pub line_more : (rows : List Row) (texts : List (List ℕ)) (items : List (Bor (List ℕ))) (i : ℕ)
@@ -47,15 +50,18 @@ hidden_said v w all items slice text message known are some is said shown =
     ∙ ap (λ n. hidden_note n (hidden_rows n all)) known
 
 -- all notes on a plan
-pub notes_said : (p : UpgradePlan) (o : Options) (offline : Bool) (a b c d e f : Option (List ℕ))
+pub notes_said : (p : UpgradePlan) (apart : List (List ℕ)) (o : Options) (offline : Bool)
+    (a b c d e f g h : Option (List ℕ))
     → Appends a b (message_if p.pinned_present
     (note (codes "Re-run with `--pinned` to upgrade pinned version requirements")))
     → Appends b c (message_if p.incompatible_present
     (note (codes "Re-run with `--incompatible` to upgrade incompatible version requirements")))
     → Appends c d (hidden_note o.verbosity (hidden_rows o.verbosity p.rows.items))
-    → Appends d e (message_if o.dry_run (warning (codes "aborting upgrade due to dry run")))
-    → Appends e f (absent_note p o offline)
-    → Appends a f (notes p o offline)
-notes_said p o offline a b c d e f first second third fourth fifth =
-    Appends-trans a b f _ _ first (Appends-trans b c f _ _ second
-    (Appends-trans c d f _ _ third (Appends-trans d e f _ _ fourth fifth)))
+    → Appends d e (list_note (codes "incompatible ranges are required") Crate apart)
+    → Appends e f (message_if o.dry_run (warning (codes "aborting upgrade due to dry run")))
+    → Appends f g (absent_note p o offline) → Appends g h (held_back_notes p o)
+    → Appends a h (notes p apart o offline)
+notes_said p apart o offline a b c d e f g h first second third fourth fifth sixth seventh =
+    Appends-trans a b h _ _ first (Appends-trans b c h _ _ second
+    (Appends-trans c d h _ _ third (Appends-trans d e h _ _ fourth
+    (Appends-trans e f h _ _ fifth (Appends-trans f g h _ _ sixth seventh)))))

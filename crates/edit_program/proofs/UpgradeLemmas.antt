@@ -1,73 +1,61 @@
 -- An upgrade, from its steps.
-use Rattle.std.proofs.Common.{◌≡◌, ◌∙◌, ℕ, Bor, Bool, List, Option, Some, None, ap, inl, inr, length, option_map, subst, true}
-use Rattle.std.specs.Prelude.{◌⊎◌, ◌==◌, not, option_copied}
+use Rattle.std.proofs.Common.{◌≡◌, ◌∙◌, ℕ, Bor, Bool, List, Option, Some, None, ap, inl, inr, option_map, subst, true}
+use Rattle.std.specs.Prelude.{◌⊎◌, option_copied}
 use Rattle.edit_base.specs.Errors.{IsMemory}
 use Rattle.edit_base.specs.declared.errors.Error.{Error}
 use Rattle.edit_lock.specs.LockFile.{Package}
 use Rattle.edit_lock.specs.Views.{lock_view}
 use Rattle.edit_lock.specs.declared.lock.Lock.{Lock}
-use Rattle.edit_locked_index.specs.LockedIndex.{locked_view}
+use Rattle.edit_policy.specs.declared.policy.CratePolicy.{CratePolicy}
+use Rattle.edit_restricted_index.specs.RestrictedIndex.{restricted_view}
+use Rattle.edit_restricted_index.specs.Restrictions.{VersionTest, restriction_test}
 use Rattle.edit_metadata.specs.Metadata.{WorkspaceModel}
 use Rattle.edit_metadata.specs.Workspaces.{workspace_view}
 use Rattle.edit_metadata.specs.declared.input.Input.{Input}
 use Rattle.edit_metadata.specs.declared.workspace.Workspace.{Workspace}
-use Rattle.edit_report.specs.Applied.{AreWritten, HaveDistinctPaths}
+use Rattle.edit_report.specs.Applied.{AreWritten}
 use Rattle.edit_report.specs.declared.output.Output.{Output}
 use Rattle.edit_sources.specs.Configured.{given}
-use Rattle.edit_steps.proofs.DistinctPaths.{outputs_differ}
-use Rattle.edit_metadata.specs.Inputs.{HaveOwnPaths}
-use Rattle.edit_base.specs.declared.errors.DeviceCall.TheVariants as call
 use Rattle.edit_store.specs.Store.{OnlyReads, SameFiles, StoreView}
-use Rattle.edit_upgrade.specs.Inputs.{outputs_at}
 use Rattle.edit_upgrade.specs.declared.upgrade.UpgradePlan.{UpgradePlan}
-use Rattle.edit_steps.proofs.ReadLemmas.{refused_on}
-use Rattle.edit_steps.specs.Causes.{IsReadCause}
 use Rattle.edit_steps.specs.Shared.{lists_for}
-use Rattle.edit_steps.specs.declared.upgrade_read.sources.Sources.{Sources}
 use Rattle.edit_steps.specs.declared.upgrade_read.target.Target.{Target}
 use Rattle.edit_program.proofs.StagingLemmas.{all_stopped_after, behind_after}
-use Rattle.edit_program.specs.DeliveryCauses.{IsDeliveryCause, IsStopped}
 use Rattle.edit_program.specs.Delivered.{AreBothWritten, HaveStopped, IsDeliveryInterrupted, IsDelivered, IsWrittenAfterPrint, upgrade_outputs_to_write}
 use Rattle.edit_program.specs.Delivery.{Delivery, calls_against, calls_of}
-use Rattle.edit_program.specs.LockRead.{HasNoLock, IsLockRead}
-use Rattle.edit_program.specs.UpgradeCauses.{IsUpgradeCause}
-use Rattle.edit_program.specs.Planned.{IsPlanCause, IsPlanned, index_view, restriction, to_request, upgrade_index}
+use Rattle.edit_program.specs.Followed.{IsReady}
+use Rattle.edit_program.specs.Planned.{IsPlanCause, IsPlanned, index_view, restriction, upgrade_index, upgrade_test}
 use Rattle.edit_program.specs.Run.{run_at}
 use Rattle.edit_program.specs.StderrText.{upgrade_stderr_text}
-use Rattle.edit_program.specs.Upgrading.{IsUpgradeResult, IsBroken, IsPathOf, IsPlannedFor, IsRead, IsUpgraded, called_workspace, delivery_by, diff_root, has_outputs}
+use Rattle.edit_program.specs.Upgrading.{IsUpgradeResult, IsBroken, IsPathOf, IsPlannedFor, IsRevisedFor, IsUpgraded, called_workspace, delivery_by, delivery_for, diff_root, has_outputs, keeps_lock}
+use Rattle.edit_program.specs.declared.upgrade_run.following.Readings.{Readings}
 use Rattle.edit_program.specs.declared.upgrade_run.upgrade_args.UpgradeArgs.{UpgradeArgs}
 
--- the outputs of a plan go to paths of their own
-pub plan_paths : (args : UpgradeArgs) (s : Sources) (lock : Option (List Package)) (local : StoreView)
-    (plan : UpgradePlan) → HaveOwnPaths s.target.inputs.items → IsPlannedFor args s lock local plan
-    → HaveDistinctPaths plan.outputs.items
-plan_paths args s lock local plan own planned =
-    outputs_differ (λ path. not (length (outputs_at path plan) == 0)) s.target.inputs.items plan.outputs.items
-    own planned.is.outputs_in_order
-
--- a plan over the index that is restricted to packages, where these are those of the arguments
-pub planned_for : (args : UpgradeArgs) (s : Sources) (local : StoreView) (plan : UpgradePlan)
-    (packages lock : Option (List Package)) → packages ≡ restriction args.to_lockfile lock
-    → IsPlanned args.options s.target.inputs.items (lists_for s.configs)
-    (locked_view packages (index_view args.published_before s.index local)) plan
-    → IsPlannedFor args s lock local plan
-planned_for args s local plan packages lock is planned =
-    subst (λ (ps : Option (List Package)). IsPlanned args.options s.target.inputs.items (lists_for s.configs)
-    (locked_view ps (index_view args.published_before s.index local)) plan) is planned
+-- a plan over the index that is restricted by a test, where that is the test of the upgrade
+pub planned_for : (r : Readings) (local : StoreView) (plan : UpgradePlan) (test : Option VersionTest)
+    → test ≡ upgrade_test r
+    → IsPlanned r.args.options r.sources.target.inputs.items (lists_for r.sources.configs)
+    (restricted_view test (index_view r.args.published_before r.sources.index local)) plan
+    → IsPlannedFor r local plan
+planned_for r local plan test is planned =
+    subst (λ (t : Option VersionTest). IsPlanned r.args.options r.sources.target.inputs.items
+    (lists_for r.sources.configs)
+    (restricted_view t (index_view r.args.published_before r.sources.index local)) plan) is planned
 
 -- and one that is refused
-pub unplanned_for : (args : UpgradeArgs) (s : Sources) (local : StoreView) (e : Error)
-    (packages lock : Option (List Package)) → packages ≡ restriction args.to_lockfile lock
-    → IsMemory e ⊎ IsPlanCause args.options s.target.inputs.items (lists_for s.configs)
-    (locked_view packages (index_view args.published_before s.index local)) e
-    → IsMemory e ⊎ IsPlanCause args.options s.target.inputs.items (lists_for s.configs)
-    (upgrade_index args lock s.index local) e
-unplanned_for args s local e packages lock is refused =
-    subst (λ (ps : Option (List Package)). IsMemory e ⊎ IsPlanCause args.options s.target.inputs.items
-    (lists_for s.configs) (locked_view ps (index_view args.published_before s.index local)) e) is refused
+pub unplanned_for : (r : Readings) (local : StoreView) (e : Error) (test : Option VersionTest)
+    → test ≡ upgrade_test r
+    → IsMemory e ⊎ IsPlanCause r.args.options r.sources.target.inputs.items (lists_for r.sources.configs)
+    (restricted_view test (index_view r.args.published_before r.sources.index local)) e
+    → IsMemory e ⊎ IsPlanCause r.args.options r.sources.target.inputs.items (lists_for r.sources.configs)
+    (upgrade_index r local) e
+unplanned_for r local e test is refused =
+    subst (λ (t : Option VersionTest). IsMemory e ⊎ IsPlanCause r.args.options
+    r.sources.target.inputs.items (lists_for r.sources.configs)
+    (restricted_view t (index_view r.args.published_before r.sources.index local)) e) is refused
 
 -- what is said of a workspace that is borrowed
-same_workspace : (r : Option (Bor Workspace)) (w : Option Workspace) → option_copied r ≡ w
+pub same_workspace : (r : Option (Bor Workspace)) (w : Option Workspace) → option_copied r ≡ w
     → option_map (λ x. workspace_view x.now) r ≡ option_map workspace_view w
 same_workspace None w is = ap (option_map workspace_view) is
 same_workspace (Some x) w is = ap (option_map workspace_view) is
@@ -78,12 +66,25 @@ pub same_lock : (r : Option (Bor Lock)) (lock : Option Lock) → option_copied r
 same_lock None lock is = ap (option_map lock_view) is
 same_lock (Some l) lock is = ap (option_map lock_view) is
 
+-- the test of the index, where the lock file and what the policy says of crates are borrowed
+pub upgrade_test_is : (r : Readings) (lent : Option (Bor Lock)) (crates : List CratePolicy)
+    (test : Option VersionTest) → option_copied lent ≡ r.lock → crates ≡ r.policy.crates.items
+    → test ≡ restriction_test (restriction r.args.to_lockfile (option_map (λ l. lock_view l.now) lent)) crates
+    → test ≡ upgrade_test r
+upgrade_test_is r lent crates test lock same is =
+    is
+    ∙ ap (λ (ps : Option (List Package)). restriction_test (restriction r.args.to_lockfile ps) crates)
+    (same_lock lent r.lock lock)
+    ∙ ap (λ (cs : List CratePolicy).
+    restriction_test (restriction r.args.to_lockfile (option_map lock_view r.lock)) cs) same
+
 -- a plan for these manifests as the arguments ask for it, where diffs name files from this folder and calls
 -- follow for this workspace
-abbrev delivery_at : UpgradeArgs → UpgradePlan → List Input → Option WorkspaceModel → List ℕ → Option (List ℕ)
-    → Option (List Package) → Delivery
-delivery_at args plan inputs called root path lock = record {
+abbrev delivery_at : UpgradeArgs → UpgradePlan → List (List ℕ) → List Input → Option WorkspaceModel → List ℕ
+    → List CratePolicy → Option (List ℕ) → Option (List Package) → Delivery
+delivery_at args plan apart inputs called root crates path lock = record {
   plan = plan;
+  apart = apart;
   inputs = inputs;
   options = args.options;
   current = root;
@@ -91,27 +92,50 @@ delivery_at args plan inputs called root path lock = record {
   calls = calls_against lock args.offline (calls_of plan args.options called);
   calls_path = path;
   offline = args.offline;
+  crates = crates;
 }
 
 -- what is delivered is what the arguments ask for
-pub same_delivery : (args : UpgradeArgs) (current root : List ℕ) (plan : UpgradePlan) (target : Target)
-    (path : Option (List ℕ)) (lock : Option (List Package)) (inputs : List Input) (r : Option (Bor Workspace))
+pub same_delivery : (args : UpgradeArgs) (current root : List ℕ) (plan : UpgradePlan)
+    (names apart : List (List ℕ)) (target : Target) (crates : List CratePolicy) (path : Option (List ℕ))
+    (lock : Option (List Package)) (inputs : List Input) (r : Option (Bor Workspace))
     (called : Option WorkspaceModel)
     → root ≡ diff_root current (option_map (λ x. workspace_view x.now) r)
-    → inputs ≡ target.inputs.items → option_copied r ≡ target.workspace
-    → called ≡ called_workspace args.to_lockfile (option_map (λ x. workspace_view x.now) r)
-    → delivery_at args plan inputs called root path lock ≡ delivery_by args current plan target path lock
-same_delivery args current root plan target path lock inputs r called from same is calls =
+    → names ≡ apart → inputs ≡ target.inputs.items → option_copied r ≡ target.workspace
+    → called ≡ called_workspace (keeps_lock args plan) (option_map (λ x. workspace_view x.now) r)
+    → delivery_at args plan names inputs called root crates path lock
+    ≡ delivery_by args current plan apart target crates path lock
+same_delivery args current root plan names apart target crates path lock inputs r called from listed same is
+    calls =
     let workspace = option_map (λ (x : Bor Workspace). workspace_view x.now) r in
-    let of = called_workspace args.to_lockfile in
-    ap (λ (w : Option WorkspaceModel). delivery_at args plan inputs w root path lock) calls
-    ∙ ap (λ (folder : List ℕ). delivery_at args plan inputs (of workspace) folder path lock) from
-    ∙ ap (λ (xs : List Input). delivery_at args plan xs (of workspace) (diff_root current workspace) path lock) same
-    ∙ ap (λ (w : Option WorkspaceModel). delivery_at args plan target.inputs.items (of w) (diff_root current w)
-    path lock) (same_workspace r target.workspace is)
+    let of = called_workspace (keeps_lock args plan) in
+    ap (λ (w : Option WorkspaceModel). delivery_at args plan names inputs w root crates path lock) calls
+    ∙ ap (λ (folder : List ℕ). delivery_at args plan names inputs (of workspace) folder crates path lock) from
+    ∙ ap (λ (ns : List (List ℕ)). delivery_at args plan ns inputs (of workspace) (diff_root current workspace)
+    crates path lock) listed
+    ∙ ap (λ (xs : List Input). delivery_at args plan apart xs (of workspace) (diff_root current workspace)
+    crates path lock) same
+    ∙ ap (λ (w : Option WorkspaceModel). delivery_at args plan apart target.inputs.items (of w)
+    (diff_root current w) crates path lock) (same_workspace r target.workspace is)
+
+-- what is delivered, where the lock file and what the policy says of crates are borrowed
+pub delivery_is : (r : Readings) (current : List ℕ) (plan : UpgradePlan) (apart : List (List ℕ))
+    (path : Option (List ℕ)) (lent : Option (Bor Lock)) (crates : List CratePolicy) (task : Delivery)
+    → option_copied lent ≡ r.lock → crates ≡ r.policy.crates.items
+    → task ≡ delivery_by r.args current plan apart r.sources.target crates path
+    (option_map (λ l. lock_view l.now) lent)
+    → task ≡ delivery_for r current plan apart path
+delivery_is r current plan apart path lent crates task lock same is =
+    is
+    ∙ ap (λ (ps : Option (List Package)).
+    delivery_by r.args current plan apart r.sources.target crates path ps)
+    (same_lock lent r.lock lock)
+    ∙ ap (λ (cs : List CratePolicy).
+    delivery_by r.args current plan apart r.sources.target cs path (option_map lock_view r.lock)) same
 
 -- a plan was delivered, and the answer is whether it changes a manifest
-pub answered : (due : Bool) (HasFields HasDecodedValue : List ℕ → Type 0) (old new : StoreView) (task d : Delivery) → task ≡ d
+pub answered : (due : Bool) (HasFields HasDecodedValue : List ℕ → Type 0) (old new : StoreView)
+    (task d : Delivery) → task ≡ d
     → due ≡ has_outputs d.plan → IsDelivered HasFields task old new
     → HasDecodedValue (upgrade_stderr_text task)
     → IsUpgradeResult due HasFields HasDecodedValue old new d
@@ -123,8 +147,9 @@ answered due HasFields HasDecodedValue old new task d same is delivered says = r
 
 -- ---- behind reads
 
-printed_after : (Leaves : List Output → List Output → StoreView → StoreView → Type 0) (HasFields : List ℕ → Type 0)
-    (d : Delivery) (old mid new : StoreView)
+-- what was printed and left behind reads
+pub printed_after : (Leaves : List Output → List Output → StoreView → StoreView → Type 0)
+    (HasFields : List ℕ → Type 0) (d : Delivery) (old mid new : StoreView)
     → ((first last : List Output) → Leaves first last mid new → Leaves first last old new)
     → IsWrittenAfterPrint Leaves HasFields d mid new → IsWrittenAfterPrint Leaves HasFields d old new
 printed_after Leaves HasFields d old mid new after printed = record {
@@ -136,26 +161,27 @@ printed_after Leaves HasFields d old mid new after printed = record {
 }
 
 -- a plan that was delivered
-pub upgraded : (due : Bool) (HasFields HasDecodedValue : List ℕ → Type 0) (args : UpgradeArgs) (current : List ℕ)
-    (home : Option (List ℕ)) (local old mid new : StoreView) (s : Sources) (plan : UpgradePlan)
-    (path : Option (List ℕ)) (lock : Option (List Package)) → OnlyReads old mid
-    → (old.tells ≡ true → IsRead args current home old.file_at s) → IsPlannedFor args s lock local plan
+pub upgraded : (due : Bool) (HasFields HasDecodedValue : List ℕ → Type 0) (args : UpgradeArgs)
+    (current : List ℕ) (home : Option (List ℕ)) (local old mid new : StoreView) (r : Readings)
+    (single plan : UpgradePlan) (apart : List (List ℕ)) (path : Option (List ℕ)) → OnlyReads old mid
+    → (old.tells ≡ true → IsReady args current home old.file_at r) → IsPlannedFor r local single
+    → IsRevisedFor r single plan apart
     → IsPathOf current (given args.update_calls) path
-    → (old.tells ≡ true → IsLockRead args.to_lockfile old.file_at current (given args.lock_file) lock)
-    → IsUpgradeResult due HasFields HasDecodedValue mid new (delivery_by args current plan s.target path lock)
+    → IsUpgradeResult due HasFields HasDecodedValue mid new (delivery_for r current plan apart path)
     → old.tells ≡ true → IsUpgraded due HasFields HasDecodedValue args (run_at current home local old new)
-upgraded due HasFields HasDecodedValue args current home local old mid new s plan path lock reads read planned at locked answered
-    t =
-    let d = delivery_by args current plan s.target path lock in
+upgraded due HasFields HasDecodedValue args current home local old mid new r single plan apart path reads
+    ready planned revised at answered t =
+    let d = delivery_for r current plan apart path in
     record {
-      sources = s;
+      readings = r;
+      single = single;
       plan = plan;
+      apart = apart;
       path = path;
-      lock = lock;
-      read = read t;
+      ready = ready t;
       planned = planned;
+      revised = revised;
       at = at;
-      locked = locked t;
       ends = record {
         is = answered.is;
         delivered = record {
@@ -178,114 +204,29 @@ cut_after HasFields d old mid new reads (inr whole) =
 
 -- and one whose delivery was refused
 pub broken : (HasFields : List ℕ → Type 0) (args : UpgradeArgs) (current : List ℕ)
-    (home : Option (List ℕ)) (local old mid new : StoreView) (s : Sources) (plan : UpgradePlan)
-    (path : Option (List ℕ)) (lock : Option (List Package)) → OnlyReads old mid
-    → (old.tells ≡ true → IsRead args current home old.file_at s) → IsPlannedFor args s lock local plan
+    (home : Option (List ℕ)) (local old mid new : StoreView) (r : Readings) (single plan : UpgradePlan)
+    (apart : List (List ℕ)) (path : Option (List ℕ)) → OnlyReads old mid
+    → (old.tells ≡ true → IsReady args current home old.file_at r) → IsPlannedFor r local single
+    → IsRevisedFor r single plan apart
     → IsPathOf current (given args.update_calls) path
-    → (old.tells ≡ true → IsLockRead args.to_lockfile old.file_at current (given args.lock_file) lock)
     → SameFiles mid.file_at new.file_at
-    ⊎ IsDeliveryInterrupted HasFields (delivery_by args current plan s.target path lock) mid new
+    ⊎ IsDeliveryInterrupted HasFields (delivery_for r current plan apart path) mid new
     → old.tells ≡ true
     → SameFiles old.file_at new.file_at ⊎ IsBroken HasFields args (run_at current home local old new)
-broken HasFields args current home local old mid new s plan path lock reads read planned at locked (inl unchanged) t =
+broken HasFields args current home local old mid new r single plan apart path reads ready planned revised at
+    (inl unchanged) t =
     inl (λ file. unchanged file ∙ reads.files file)
-broken HasFields args current home local old mid new s plan path lock reads read planned at locked (inr cut) t =
+broken HasFields args current home local old mid new r single plan apart path reads ready planned revised at
+    (inr cut) t =
     inr (record {
-      sources = s;
+      readings = r;
+      single = single;
       plan = plan;
+      apart = apart;
       path = path;
-      lock = lock;
-      read = read t;
+      ready = ready t;
       planned = planned;
+      revised = revised;
       at = at;
-      locked = locked t;
-      ends = cut_after HasFields (delivery_by args current plan s.target path lock) old mid new reads cut;
+      ends = cut_after HasFields (delivery_for r current plan apart path) old mid new reads cut;
     })
-
--- ---- causes
-
--- what the arguments name is not read
-pub read_cause : (HasFields : List ℕ → Type 0) (args : UpgradeArgs) (current : List ℕ) (home : Option (List ℕ))
-    (local old new : StoreView) (e : Error) → SameFiles old.file_at new.file_at
-    → IsReadCause current home (to_request args) old new e
-    → IsUpgradeCause HasFields args (run_at current home local old new) e
-read_cause HasFields args current home local old new e same (inl failed) = inr (inl (same, failed))
-read_cause HasFields args current home local old new e same (inr wrong) =
-    inr (inr (inr (inr (λ t. inl (same, inr (inl (wrong t)))))))
-
--- nor its lock file
-pub lock_cause : (HasFields : List ℕ → Type 0) (args : UpgradeArgs) (current : List ℕ) (home : Option (List ℕ))
-    (local old new : StoreView) (e : Error) → SameFiles old.file_at new.file_at
-    → IsReadCause current home (to_request args) old new e
-    ⊎ (old.tells ≡ true → HasNoLock args.to_lockfile old.file_at current (given args.lock_file) e)
-    → IsUpgradeCause HasFields args (run_at current home local old new) e
-lock_cause HasFields args current home local old new e same (inl cause) =
-    read_cause HasFields args current home local old new e same cause
-lock_cause HasFields args current home local old new e same (inr none) =
-    inr (inr (inr (inr (λ t. inl (same, inl (none t))))))
-
--- there is no plan for it
-pub plan_cause : (HasFields : List ℕ → Type 0) (args : UpgradeArgs) (current : List ℕ) (home : Option (List ℕ))
-    (local old new : StoreView) (s : Sources) (lock : Option (List Package)) (e : Error)
-    → SameFiles old.file_at new.file_at
-    → (old.tells ≡ true → IsRead args current home old.file_at s)
-    → (old.tells ≡ true → IsLockRead args.to_lockfile old.file_at current (given args.lock_file) lock)
-    → IsMemory e ⊎ IsPlanCause args.options s.target.inputs.items (lists_for s.configs)
-    (upgrade_index args lock s.index local) e
-    → IsUpgradeCause HasFields args (run_at current home local old new) e
-plan_cause HasFields args current home local old new s lock e same read locked (inl memory) = inl memory
-plan_cause HasFields args current home local old new s lock e same read locked (inr wrong) =
-    inr (inr (inr (inr (λ t. inl (
-      same,
-      inr (inr (record {
-        lock = lock;
-        locked = locked t;
-        unplanned = record {
-          sources = s;
-          read = read t;
-          cause = wrong;
-        };
-      })),
-    )))))
-
--- a plan is not carried out behind reads
-stopped_later : (HasFields : List ℕ → Type 0) (d : Delivery) (old mid new : StoreView) (e : Error)
-    → OnlyReads old mid
-    → IsStopped HasFields d mid new e → IsStopped HasFields d old new e
-stopped_later HasFields d old mid new e reads (inl held) =
-    inl ((λ path. held.0 path ∙ reads.files path), held.1)
-stopped_later HasFields d old mid new e reads (inr lacks) = inr (
-  printed_after AreBothWritten HasFields d old mid new
-      (λ first last. behind_after AreWritten first last old mid new reads) lacks.0,
-  lacks.1,
-)
-
--- the plan is not delivered
-pub stop_cause : (HasFields : List ℕ → Type 0) (args : UpgradeArgs) (current : List ℕ) (home : Option (List ℕ))
-    (local old mid new : StoreView) (s : Sources) (plan : UpgradePlan) (path : Option (List ℕ))
-    (lock : Option (List Package)) (e : Error)
-    → OnlyReads old mid
-    → (old.tells ≡ true → IsRead args current home old.file_at s) → IsPlannedFor args s lock local plan
-    → IsPathOf current (given args.update_calls) path
-    → (old.tells ≡ true → IsLockRead args.to_lockfile old.file_at current (given args.lock_file) lock)
-    → IsDeliveryCause HasFields (delivery_by args current plan s.target path lock) mid new e
-    → IsUpgradeCause HasFields args (run_at current home local old new) e
-stop_cause HasFields args current home local old mid new s plan path lock e reads read planned at locked
-    (inl refused) =
-    inr (inr (inl (refused_on call.Write old mid new e reads refused)))
-stop_cause HasFields args current home local old mid new s plan path lock e reads read planned at locked
-    (inr (inl unwritten)) =
-    inr (inr (inr (inl unwritten)))
-stop_cause HasFields args current home local old mid new s plan path lock e reads read planned at locked
-    (inr (inr stopped)) =
-    inr (inr (inr (inr (λ t. inr (record {
-      sources = s;
-      plan = plan;
-      path = path;
-      lock = lock;
-      read = read t;
-      planned = planned;
-      at = at;
-      locked = locked t;
-      ends = stopped_later HasFields (delivery_by args current plan s.target path lock) old mid new e reads stopped;
-    })))))

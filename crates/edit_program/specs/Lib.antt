@@ -1,11 +1,16 @@
 pub mod Absent
+pub mod NameLists
+pub mod HeldBackNotes
 pub mod ParsedBound
 pub mod ParsedOptions
 pub mod Commands
+pub mod Followed
 pub mod Merged
+pub mod Merging
 pub mod Presented
 pub mod Run
 pub mod Runs
+pub mod ParsedRows
 pub mod ParsedUpgrade
 pub mod ParsedSetVersion
 pub mod LockRead
@@ -15,6 +20,7 @@ pub mod NoIndex
 pub mod UpgradeCauses
 pub mod PrintedLookups
 pub mod Planned
+pub mod Reading
 pub mod Upgrading
 pub mod SetVersionCauses
 pub mod Plans
@@ -24,6 +30,9 @@ pub mod Tables
 pub mod Delivery
 pub mod PrintedPlan
 pub mod CallsFile
+pub mod Unifying
+pub mod Choosing
+pub mod Revising
 pub mod StderrText
 pub mod Delivered
 pub mod DeliveryCauses

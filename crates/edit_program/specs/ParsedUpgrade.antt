@@ -11,7 +11,8 @@ use Rattle.edit_version.specs.declared.levels.Level.{Level}
 use Rattle.edit_version.specs.declared.levels.Level.TheVariants.{Major, Minor, Patch}
 use Rattle.edit_version.specs.declared.rust_version.RustVersion.{RustVersion}
 use Rattle.edit_program.specs.ParsedBound.{HasBoundFault, IsGivenBound}
-use Rattle.edit_program.specs.ParsedOptions.{HasOptions, HasBadStatus, is_given, status_of}
+use Rattle.edit_program.specs.ParsedOptions.{HasBadStatus, HasGivenChoices, HasOptions, is_given, status_of}
+use Rattle.edit_program.specs.ParsedRows.{HasRowChoice, HasRowFault}
 use Rattle.edit_program.specs.Presented.{presentation_of}
 use Rattle.edit_program.specs.declared.output_format.PlanCommand.TheVariants.{Upgrade}
 
@@ -75,6 +76,8 @@ pub record HasUpgradeArgs (rows : List Row) (w : UpgradeArgs) : Type 0 where
       (is_given (codes "ignore-rust-version") rows) w.rust
   pub options : HasOptions rows w.options
   pub level : level_of rows ≡ Some w.options.level
+  pub choices : HasGivenChoices rows w.given
+  pub no_policy : w.no_policy ≡ is_given (codes "no-policy") rows
   pub presentation : presentation_of Upgrade rows ≡ Some w.presentation
   pub calls : given w.update_calls ≡ first_of (codes "update-calls") rows
   pub lock : given w.lock_file ≡ first_of (codes "lock-file") rows
@@ -82,14 +85,17 @@ pub record HasUpgradeArgs (rows : List Row) (w : UpgradeArgs) : Type 0 where
   pub to_lockfile : w.to_lockfile ≡ is_given (codes "to-lockfile") rows
   pub usable : has_lockfile_fault w.options.incompatible rows ≡ false
   pub bound : IsGivenBound rows w.published_before
+  pub time : given w.time ≡ first_of (codes "now") rows
+  pub unify : w.unify ≡ is_given (codes "unify") rows
+  pub choice : HasRowChoice rows w.rows
 
 -- two indexes are given, an option has an invalid value, the options for Rust versions or for the output
--- format are invalid, `--level` names no level, `--to-lockfile` cannot be used, or the options for the time
--- of publication are invalid
+-- format are invalid, `--level` names no level, `--to-lockfile` cannot be used, the options for the time of
+-- publication are invalid, or those for the choice of rows
 abbrev pub HaveUpgradeFault : List Row → Type 0
 HaveUpgradeFault rows =
     (has_two_indexes rows ≡ true)
     ⊎ (HasBadStatus rows
     ⊎ (HasNoRust (first_of (codes "rust-version") rows) (is_given (codes "ignore-rust-version") rows)
     ⊎ ((presentation_of Upgrade rows ≡ None)
-    ⊎ ((level_of rows ≡ None) ⊎ (HasLockfileFault rows ⊎ HasBoundFault rows)))))
+    ⊎ ((level_of rows ≡ None) ⊎ (HasLockfileFault rows ⊎ (HasBoundFault rows ⊎ HasRowFault rows))))))

@@ -1,9 +1,11 @@
 -- The files that an upgrade reads, and its plan over them.
-use Rattle.std.specs.Prelude.{ℕ, List, [], Bool, Option, Some, None, if◌then◌else◌, string_bytes, unwrap_or}
+use Rattle.std.specs.Prelude.{ℕ, List, [], Bool, Option, Some, None, if◌then◌else◌, option_map, string_bytes, unwrap_or}
 use Rattle.std.specs.Global.{Vec}
 use Rattle.edit_base.specs.declared.errors.Error.{Error}
 use Rattle.edit_lock.specs.LockFile.{Package}
-use Rattle.edit_locked_index.specs.LockedIndex.{locked_view}
+use Rattle.edit_lock.specs.Views.{lock_view}
+use Rattle.edit_restricted_index.specs.RestrictedIndex.{restricted_view}
+use Rattle.edit_restricted_index.specs.Restrictions.{VersionTest, restriction_test}
 use Rattle.edit_sources.specs.DirIndex.{dir_view}
 use Rattle.edit_metadata.specs.declared.input.Input.{Input}
 use Rattle.edit_sources.specs.Configured.{given}
@@ -25,6 +27,7 @@ use Rattle.edit_upgrade.specs.declared.upgrade.UpgradePlan.{UpgradePlan}
 use Rattle.edit_steps.specs.RequestView.{RequestView, rust_request}
 use Rattle.edit_steps.specs.declared.upgrade_read.index.IndexSource.{IndexSource}
 use Rattle.edit_steps.specs.declared.upgrade_read.index.IndexSource.TheVariants as source
+use Rattle.edit_program.specs.declared.upgrade_run.following.Readings.{Readings}
 use Rattle.edit_program.specs.declared.upgrade_run.upgrade_args.UpgradeArgs.{UpgradeArgs}
 
 -- the files to read, from the arguments
@@ -40,9 +43,10 @@ to_request args = record {
   rust = rust_request args.rust;
 }
 
--- the files to read where only the lookups are requested: no index
-abbrev pub to_lookup_request : UpgradeArgs → RequestView
-to_lookup_request args = record {
+-- the files to read without an index: before the policy is known, which may bound it, and where only the
+-- lookups are requested
+abbrev pub to_manifest_request : UpgradeArgs → RequestView
+to_manifest_request args = record {
   manifest = given args.manifest_path;
   metadata = given args.metadata_json;
   index = None;
@@ -64,10 +68,16 @@ index_view bound (source.Folder folder) local = dir_view (string_bytes folder) (
 abbrev pub restriction : Bool → Option (List Package) → Option (List Package)
 restriction to_lockfile lock = if to_lockfile then Some (unwrap_or lock []) else None
 
--- the index of an upgrade, with `--to-lockfile` restricted to the packages of the lock file
-abbrev pub upgrade_index : UpgradeArgs → Option (List Package) → IndexSource → StoreView → IndexView
-upgrade_index args lock index local =
-    locked_view (restriction args.to_lockfile lock) (index_view args.published_before index local)
+-- the versions to which the index of an upgrade is restricted: with `--to-lockfile` those of the lock file,
+-- and those that the holds of the policy admit
+abbrev pub upgrade_test : Readings → Option VersionTest
+upgrade_test r =
+    restriction_test (restriction r.args.to_lockfile (option_map lock_view r.lock)) r.policy.crates.items
+
+-- the index of an upgrade, restricted to these versions, and to those that were published by the bound
+abbrev pub upgrade_index : Readings → StoreView → IndexView
+upgrade_index r local =
+    restricted_view (upgrade_test r) (index_view r.args.published_before r.sources.index local)
 
 -- an empty cache
 abbrev pub empty_answers : CachedAnswers

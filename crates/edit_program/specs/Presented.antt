@@ -1,12 +1,12 @@
 -- The output format of a plan, from the arguments of `upgrade` and `set-version`.
-use Rattle.std.specs.Prelude.{◌&&◌, ◌||◌, ℕ, Bool, List, [], Option, Some, None, codes, false, if◌then◌else◌, true}
+use Rattle.std.specs.Prelude.{◌&&◌, ◌||◌, ℕ, Bool, List, [], Option, Some, None, codes, false, if◌then◌else◌, option_map, true}
 use Rattle.std.specs.Option.{option_map_or}
 use Rattle.std.specs.Str.{bytes_eq}
 use Rattle.clap.specs.Words.{Row, Text, first_of}
 use Rattle.edit_shown.specs.declared.presentation.MessageFormat.{MessageFormat}
-use Rattle.edit_shown.specs.declared.presentation.MessageFormat.TheVariants.{Human, Json, Markdown, Github}
+use Rattle.edit_shown.specs.declared.presentation.MessageFormat.TheVariants.{Human, Json, Markdown, Github, Numbered}
 use Rattle.edit_shown.specs.declared.presentation.Presentation.{Presentation}
-use Rattle.edit_program.specs.ParsedOptions.{is_given, value_of}
+use Rattle.edit_program.specs.ParsedOptions.{is_given, lists_rows, value_of}
 use Rattle.edit_program.specs.declared.output_format.PlanCommand.{PlanCommand}
 use Rattle.edit_program.specs.declared.output_format.PlanCommand.TheVariants.{Upgrade, SetVersion}
 
@@ -41,11 +41,16 @@ is_color text =
 abbrev pub has_color : List Row → Bool
 has_color rows = option_map_or is_color (first_of (codes "color") rows) true
 
+-- the format of numbered rows where only these are listed, else the given one
+abbrev pub numbered_if : Bool → Presentation → Presentation
+numbered_if lists given = if lists then record { format = Numbered; diff = false } else given
+
 -- the output format that parsed arguments of a command give
 abbrev pub presentation_of : PlanCommand → List Row → Option Presentation
 presentation_of command rows =
     if has_color rows
-    then format_of_options command (value_of (codes "message-format") [] rows) (is_given (codes "diff") rows)
+    then option_map (numbered_if (lists_rows rows))
+    (format_of_options command (value_of (codes "message-format") [] rows) (is_given (codes "diff") rows))
     else None
 
 -- the exit status after a plan: 1 where `--check` is given and the plan has an output, else 0

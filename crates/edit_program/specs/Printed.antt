@@ -10,7 +10,7 @@ use Rattle.edit_set_version.specs.declared.plan.SetVersionPlan.{SetVersionPlan}
 use Rattle.edit_shown.specs.Diffs.{diffs}
 use Rattle.edit_shown.specs.Messages.{changes}
 use Rattle.edit_shown.specs.declared.presentation.MessageFormat.{MessageFormat}
-use Rattle.edit_shown.specs.declared.presentation.MessageFormat.TheVariants.{Human, Json, Markdown, Github}
+use Rattle.edit_shown.specs.declared.presentation.MessageFormat.TheVariants.{Human, Json, Markdown, Github, Numbered}
 use Rattle.edit_program.specs.declared.set_version_run.set_version_args.SetVersionArgs.{SetVersionArgs}
 
 -- a warning, where it is due
@@ -27,6 +27,7 @@ statuses_in Human lines = statuses lines
 statuses_in Json lines = []
 statuses_in Markdown lines = statuses lines
 statuses_in Github lines = statuses lines
+statuses_in Numbered lines = statuses lines
 
 -- on standard error: the warning for `--all`, the lines, and the warning of a dry run
 abbrev pub set_version_stderr_text : SetVersionArgs → List ReportLine → List ℕ
@@ -41,6 +42,7 @@ messages_in Human lines = []
 messages_in Json lines = changes lines
 messages_in Markdown lines = []
 messages_in Github lines = []
+messages_in Numbered lines = []
 
 -- the diffs of the manifests, where they are requested
 abbrev pub diffs_if : Bool → List ℕ → List Input → List Output → List ℕ

@@ -7,8 +7,9 @@ use Rattle.edit_shown.specs.Annotations.{annotations}
 use Rattle.edit_shown.specs.Diffs.{diffs}
 use Rattle.edit_shown.specs.Markdown.{markdown}
 use Rattle.edit_shown.specs.Messages.{messages}
+use Rattle.edit_shown.specs.Numbered.{numbered}
 use Rattle.edit_shown.specs.declared.presentation.MessageFormat.{MessageFormat}
-use Rattle.edit_shown.specs.declared.presentation.MessageFormat.TheVariants.{Human, Json, Markdown, Github}
+use Rattle.edit_shown.specs.declared.presentation.MessageFormat.TheVariants.{Human, Json, Markdown, Github, Numbered}
 use Rattle.edit_upgrade.specs.UpdateCalls.{Call}
 use Rattle.edit_upgrade.specs.declared.upgrade.UpgradePlan.{UpgradePlan}
 use Rattle.edit_program.specs.Delivery.{Delivery}
@@ -21,6 +22,7 @@ messages_as Human plan inputs root options calls = []
 messages_as Json plan inputs root options calls = messages plan inputs options calls
 messages_as Markdown plan inputs root options calls = markdown options.verbosity plan.rows.items inputs
 messages_as Github plan inputs root options calls = annotations root inputs plan.rows.items
+messages_as Numbered plan inputs root options calls = numbered root inputs plan.rows.items
 
 -- the diffs of manifests, where they are requested
 abbrev pub diffs_if : Bool → List ℕ → List Input → List Output → List ℕ

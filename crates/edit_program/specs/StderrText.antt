@@ -9,6 +9,7 @@ use Rattle.std.specs.Option.{option_map_or}
 use Rattle.std.specs.Ordering.{nat_cmp}
 use Rattle.std.specs.Str.{bytes_eq}
 use Rattle.edit_metadata.specs.declared.input.Input.{Input}
+use Rattle.edit_report.specs.HoldNotes.{hold_notes}
 use Rattle.edit_report.specs.Messages.{message_text}
 use Rattle.edit_report.specs.ShownRows.{is_shown}
 use Rattle.edit_report.specs.Table.{name_text, reason_text}
@@ -20,6 +21,9 @@ use Rattle.edit_upgrade.specs.declared.upgrade.UpgradePlan.{UpgradePlan}
 use Rattle.edit_upgrade.specs.declared.upgrade.Warning.{Warning}
 use Rattle.edit_program.specs.Absent.{absent_note}
 use Rattle.edit_program.specs.Delivery.{Delivery}
+use Rattle.edit_program.specs.HeldBackNotes.{held_back_notes}
+use Rattle.edit_program.specs.NameLists.{list_note}
+use Rattle.edit_program.specs.declared.upgrade_output.name_lists.Noun.TheVariants.{Crate}
 
 -- a warning
 abbrev pub warning : List ℕ → List ℕ
@@ -136,20 +140,25 @@ abbrev pub hidden_note : ℤ → List Row → List ℕ
 hidden_note verbosity [] = []
 hidden_note verbosity (row ∷ rows) = note (hidden_text verbosity (row ∷ rows))
 
--- the notes on a plan, the warning that a dry run wrote nothing, and the note on crates missing in the
--- index
-abbrev pub notes : UpgradePlan → Options → Bool → List ℕ
-notes plan options offline =
+-- the notes on a plan, that on crates in more than one compatible range, the warning that a dry run wrote
+-- nothing, the note on crates missing in the index, and the notes on what was held back for the age of
+-- versions
+abbrev pub notes : UpgradePlan → List (List ℕ) → Options → Bool → List ℕ
+notes plan apart options offline =
     message_if plan.pinned_present
     (note (codes "Re-run with `--pinned` to upgrade pinned version requirements"))
     ++ (message_if plan.incompatible_present
     (note (codes "Re-run with `--incompatible` to upgrade incompatible version requirements"))
     ++ (hidden_note options.verbosity (hidden_rows options.verbosity plan.rows.items)
+    ++ (list_note (codes "incompatible ranges are required") Crate apart
     ++ (message_if options.dry_run (warning (codes "aborting upgrade due to dry run"))
-    ++ absent_note plan options offline)))
+    ++ (absent_note plan options offline
+    ++ held_back_notes plan options)))))
 
--- all that standard error has of a plan: the report on each input, the calls, the notes
+-- all that standard error has of a plan: the report on each input, the calls, the notes on the crates that
+-- the policy holds, and the other notes
 abbrev pub upgrade_stderr_text : Delivery → List ℕ
 upgrade_stderr_text d =
     input_reports d.options.verbosity d.plan.warnings.items d.inputs (length d.inputs)
-    ++ (call_statuses d.calls ++ notes d.plan d.options d.offline)
+    ++ (call_statuses d.calls
+    ++ (hold_notes d.plan.rows.items d.crates ++ notes d.plan d.apart d.options d.offline))

@@ -5,7 +5,7 @@ use Rattle.std.specs.List.Sorted.{IsNonDecreasingBy}
 use Rattle.edit_report.specs.Table.{report_text}
 use Rattle.edit_report.specs.declared.row.Row.{Row}
 use Rattle.edit_shown.specs.declared.presentation.MessageFormat.{MessageFormat}
-use Rattle.edit_shown.specs.declared.presentation.MessageFormat.TheVariants.{Human, Json, Markdown, Github}
+use Rattle.edit_shown.specs.declared.presentation.MessageFormat.TheVariants.{Human, Json, Markdown, Github, Numbered}
 use Rattle.edit_upgrade.specs.Inputs.{below}
 
 -- the rows of an input
@@ -22,6 +22,7 @@ table Human verbosity rows i = report_text verbosity (rows_at i rows)
 table Json verbosity rows i = []
 table Markdown verbosity rows i = []
 table Github verbosity rows i = []
+table Numbered verbosity rows i = []
 
 -- the tables of the first inputs, as many as this number
 abbrev pub tables : MessageFormat → ℤ → List Row → ℕ → List ℕ

@@ -1,9 +1,10 @@
 //! Values of options in parsed arguments.
 ghost use Rattle.std.specs.Prelude.{◌≡◌, ◌||◌, IfOk, is_some, map, string_bytes};
 ghost use Rattle.clap.specs.Words.{first_of, found_of, rows_of};
-ghost use Rattle.edit_program.specs.ParsedOptions.{is_given, values_of};
+ghost use Rattle.edit_program.specs.ParsedOptions.{is_explicit, is_from_arguments, is_given, lists_rows, values_of};
 
 use clap::ArgMatches;
+use clap::parser::ValueSource;
 use std::alloc::{AllocError, Global};
 
 /// Whether a flag is given.
@@ -24,11 +25,36 @@ pub(crate) fn is_either_given(matches: &ArgMatches<'_>, one: &str, other: &str) 
     is_given(matches, other)
 }
 
+/// Whether a value comes from an argument, and not from a default.
+fn is_from_arguments(source: Option<ValueSource>) -> bool
+    ensures { result ≡ is_from_arguments source }
+{
+    match source {
+        Some(ValueSource::CommandLine) => true,
+        Some(ValueSource::DefaultValue) | None => false,
+    }
+}
+
+/// Whether an argument gives the value of an option, which is not its default then.
+pub(crate) fn is_explicit(matches: &ArgMatches<'_>, id: &str) -> bool
+    ensures { result ≡ is_explicit id.now (rows_of (found_of matches.now)) }
+{
+    is_from_arguments(matches.value_source(id))
+}
+
 /// Whether an option has a value.
 pub(crate) fn has_value(matches: &ArgMatches<'_>, id: &str) -> bool
     ensures { result ≡ is_some (first_of id.now (rows_of (found_of matches.now))) }
 {
     matches.get_str(id).is_some()
+}
+
+/// Whether only the rows that would change are listed: with `--interactive`, unless `--rows` says which of
+/// them change.
+pub(crate) fn lists_rows(matches: &ArgMatches<'_>) -> bool
+    ensures { result ≡ lists_rows (rows_of (found_of matches.now)) }
+{
+    is_given(matches, "interactive") && !has_value(matches, "rows")
 }
 
 /// Copies texts into newly allocated memory.

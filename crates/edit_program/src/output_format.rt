@@ -2,10 +2,10 @@
 ghost use Rattle.std.specs.Prelude.{◌≡◌, IfErr, IfOk, None, OnOk, Some, false, true};
 ghost use Rattle.clap.specs.Words.{found_of, rows_of};
 ghost use Rattle.edit_program.specs.ParsedOptions.{is_dry};
-ghost use Rattle.edit_program.specs.Presented.{has_color, is_color, presentation_of, format_of_options, status_after, upgrade_format, without_diffs};
+ghost use Rattle.edit_program.specs.Presented.{has_color, is_color, presentation_of, format_of_options, numbered_if, status_after, upgrade_format, without_diffs};
 
 use crate::args_error::{ArgsError, ArgsFault};
-use crate::lookups::is_given;
+use crate::lookups::{is_given, lists_rows};
 use clap::ArgMatches;
 use edit_shown::{MessageFormat, Presentation};
 
@@ -73,6 +73,20 @@ fn format_of_options<'a>(
     }
 }
 
+/// The format of numbered rows where only these are listed, else the given one.
+fn numbered_if(lists: bool, given: Presentation) -> Presentation
+    ensures { result ≡ numbered_if lists given }
+{
+    if lists {
+        Presentation {
+            format: MessageFormat::Numbered,
+            diff: false,
+        }
+    } else {
+        given
+    }
+}
+
 /// An error where a text does not say when reports are colored.
 fn check_color<'a>(color: &'a str) -> Result<(), ArgsError<'a>>
     ensures ok { OnOk result (is_color color.now ≡ true) }
@@ -107,14 +121,15 @@ pub(crate) fn presentation<'a>(
 {
     check_color_option(matches)?;
     let format = matches.get_str("message-format").unwrap_or("");
-    format_of_options(command, format, is_given(matches, "diff"))
+    let given = format_of_options(command, format, is_given(matches, "diff"))?;
+    Ok(numbered_if(lists_rows(matches), given))
 }
 
-/// Whether no file is written, because of `--dry-run` or `--check`.
+/// Whether no file is written, because of `--dry-run` or `--check`, or since only rows are listed.
 pub(crate) fn is_dry(matches: &ArgMatches<'_>) -> bool
     ensures { result ≡ is_dry (rows_of (found_of matches.now)) }
 {
-    is_given(matches, "dry-run") || is_given(matches, "check")
+    is_given(matches, "dry-run") || is_given(matches, "check") || lists_rows(matches)
 }
 
 /// The exit status after a plan: 1 where `--check` is given and a file would change.

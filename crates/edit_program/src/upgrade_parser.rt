@@ -3,16 +3,19 @@ ghost use Rattle.std.specs.Prelude.{◌≡◌, ◌≢◌, IfErr, IfOk, None, Som
 ghost use Rattle.std.specs.Str.{bytes_eq};
 ghost use Rattle.clap.specs.Words.{first_of, found_of, rows_of};
 ghost use Rattle.edit_program.specs.declared.args_error.ArgsError.TheVariants as parse_error;
-ghost use Rattle.edit_program.specs.ParsedOptions.{HasOptions, HasBadStatus, is_given, status_of, status_of_value, verbosity_of};
+ghost use Rattle.edit_program.specs.ParsedOptions.{HasBadStatus, HasGivenChoices, HasOptions, is_given, status_of, status_of_value, verbosity_of};
+ghost use Rattle.edit_program.specs.ParsedRows.{HasNoRowChoice, HasRowChoice, HasRowFault, IsRowChoice};
 ghost use Rattle.edit_program.specs.ParsedUpgrade.{HasUpgradeArgs, HasNoRust, HaveUpgradeFault, IsRust, has_lockfile_fault, has_two_indexes, level_in, level_of, level_of_value};
 
 use crate::args_error::{ArgsError, ArgsFault};
-use crate::lookups::{has_value, is_either_given, is_given, values_of};
+use crate::lookups::{has_value, is_either_given, is_explicit, is_given, values_of};
 use crate::output_format::{PlanCommand, is_dry, presentation};
 use crate::publication_bound::publication_bound;
 use crate::upgrade_run::UpgradeArgs;
 use clap::ArgMatches;
 use edit_base::Error;
+use edit_choice::RowChoice;
+use edit_policy::GivenChoices;
 use edit_steps::upgrade_read::RustChoice;
 use edit_upgrade::Options;
 use edit_version::{Level, RustVersion};
@@ -164,6 +167,18 @@ fn options_of<'a>(
     })
 }
 
+/// Which of the choices of an upgrade arguments give. `--to-lockfile` gives that on incompatible upgrades:
+/// they are excluded then.
+fn given_choices(matches: &ArgMatches<'_>) -> GivenChoices
+    ensures { HasGivenChoices (rows_of (found_of matches.now)) result }
+{
+    GivenChoices {
+        compatible: is_explicit(matches, "compatible"),
+        incompatible: is_explicit(matches, "incompatible") || is_given(matches, "to-lockfile"),
+        pinned: is_explicit(matches, "pinned"),
+    }
+}
+
 /// Whether both an index file and an index folder are given.
 fn has_two_indexes(matches: &ArgMatches<'_>) -> bool
     ensures { result ≡ has_two_indexes (rows_of (found_of matches.now)) }
@@ -194,6 +209,41 @@ fn to_lockfile<'a>(matches: &ArgMatches<'a>, incompatible: bool) -> Result<bool,
     Ok(true)
 }
 
+/// The choice of rows that a text is; a text that is none is an error.
+fn named_rows<'a>(alloc: Global, text: &'a str) -> Result<Option<RowChoice<'a>>, ArgsError<'a>>
+    ensures ok { IfOk result (IsRowChoice (Some text.entry.now)) }
+    ensures error { IfErr result (λ e. e ≢ parse_error.Memory → HasNoRowChoice (Some text.entry.now)) }
+{
+    match RowChoice::parse(alloc, text)? {
+        Some(choice) => Ok(Some(choice)),
+        None => Err(ArgsError::Fault(ArgsFault::Invalid(
+            "rows",
+            "ROWS",
+            text,
+            "not numbers from 1 on as 1,3-5, names of crates, all or none",
+        ))),
+    }
+}
+
+/// The rows that are chosen, where that is requested; an error for a text that is no choice, and for
+/// `--interactive` with `--check`.
+fn row_choice<'a>(
+    alloc: Global,
+    matches: &ArgMatches<'a>,
+) -> Result<Option<RowChoice<'a>>, ArgsError<'a>>
+    ensures ok { IfOk result (HasRowChoice (rows_of (found_of matches.now))) }
+    ensures error { IfErr result (λ e. e ≢ parse_error.Memory
+        → HasRowFault (rows_of (found_of matches.now))) }
+{
+    if is_given(matches, "interactive") && is_given(matches, "check") {
+        return Err(ArgsError::Fault(ArgsFault::Together("--interactive", "--check")));
+    }
+    match matches.get_str("rows") {
+        Some(text) => named_rows(alloc, text),
+        None => Ok(None),
+    }
+}
+
 /// The options and paths that parsed arguments of `upgrade` give.
 pub(crate) fn parse_upgrade_args<'a>(
     alloc: Global,
@@ -216,6 +266,7 @@ pub(crate) fn parse_upgrade_args<'a>(
     let level = level_of(matches)?;
     let options = options_of(alloc, matches, level)?;
     let to_lockfile = to_lockfile(matches, options.incompatible)?;
+    let rows = row_choice(alloc, matches)?;
     Ok(UpgradeArgs {
         manifest_path: matches.get_str("manifest-path"),
         metadata_json: matches.get_str("metadata-json"),
@@ -225,11 +276,16 @@ pub(crate) fn parse_upgrade_args<'a>(
         default_config: matches.get_str("default-config"),
         rust,
         options,
+        given: given_choices(matches),
+        no_policy: is_given(matches, "no-policy"),
         presentation,
         update_calls: matches.get_str("update-calls"),
         lock_file: matches.get_str("lock-file"),
         offline: is_given(matches, "offline"),
         to_lockfile,
         published_before,
+        time: matches.get_str("now"),
+        unify: is_given(matches, "unify"),
+        rows,
     })
 }

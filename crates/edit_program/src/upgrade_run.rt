@@ -1,9 +1,15 @@
 //! The command `upgrade`, over any files, any index and any writers.
 
+mod choosing;
 mod delivering;
+mod following;
 mod lookup_printing;
+mod merging;
 mod plan;
+mod policy_age;
 mod reading;
+mod revising;
+mod unifying;
 pub mod upgrade_args;
 mod upgrading;
 

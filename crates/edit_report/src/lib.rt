@@ -1,6 +1,7 @@
 //! The report of an upgrade, and the writing of planned outputs to their files.
 #![tactic(auto)]
 
+mod holds;
 mod layout;
 mod lines;
 pub mod output;
@@ -9,6 +10,7 @@ pub mod shell;
 mod shows;
 mod table;
 
+pub use holds::write_holds;
 pub use output::{Output, apply};
 pub use row::{Change, Reason, Row};
 pub use shell::{

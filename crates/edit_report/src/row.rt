@@ -2,12 +2,14 @@
 
 use edit_tree::Place;
 
-/// Which version an entry's new requirement was made from.
+/// What an entry's new requirement was made from: an argument, a version, or the requirement of another
+/// entry.
 #[derive(Debug, Clone, Copy, PartialEq, Eq)]
 pub enum Change {
     Explicit,
     Latest,
     Compatible,
+    Unified,
 }
 
 /// Why the requirement of an entry was not raised further; `Latest` where nothing newer exists.

@@ -17,6 +17,7 @@ const UNAVAILABLE: &[&str] = &[
     "help",
     "index-dir",
     "index-file",
+    "interactive",
     "lock-file",
     "message-format",
     "metadata-json",

@@ -10,3 +10,5 @@ pub mod FloatLemmas
 pub mod MarkdownLemmas
 pub mod AnnotationLemmas
 pub mod RequirementLineLemmas
+pub mod HeldBackLemmas
+pub mod NumberedLemmas

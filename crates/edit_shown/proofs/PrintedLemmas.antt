@@ -12,7 +12,8 @@ use Rattle.edit_report.specs.declared.output.Output.{Output}
 use Rattle.edit_report.specs.declared.row.Row.{Row}
 use Rattle.edit_upgrade.specs.declared.upgrade.UpgradePlan.{UpgradePlan}
 use Rattle.edit_upgrade.specs.declared.upgrade.Warning.{Warning}
-use Rattle.edit_shown.specs.Messages.{change_message, changes, file_message, line_texts, messages, row_message, summary_message, warning_message}
+use Rattle.edit_shown.specs.HeldBack.{held_back}
+use Rattle.edit_shown.specs.Messages.{change_message, changes, file_message, held_back_message, line_texts, messages, row_message, summary_message, warning_message}
 
 -- a stream that has the texts of so many entries has those of one more
 pub printed_more : {A : Type 0} (show : A → List ℕ) (xs : List A) (i : ℕ) (x : A) (a b c : Option (List ℕ))
@@ -40,13 +41,14 @@ changes_more lines i line a b c within is before one =
 
 -- an upgrade, from its parts
 pub messages_all : (plan : UpgradePlan) (inputs : List Input) (o : Options) (calls : List (List (List ℕ)))
-    (rows : List Row) (warnings : List Warning) (outputs : List Output) (a b c d e : Option (List ℕ))
+    (rows : List Row) (warnings : List Warning) (outputs : List Output) (a b c d e f : Option (List ℕ))
     → rows ≡ plan.rows.items → warnings ≡ plan.warnings.items → outputs ≡ plan.outputs.items
     → Appends a b (flat_map (row_message inputs) rows)
     → Appends b c (flat_map (warning_message inputs) warnings)
-    → Appends c d (flat_map (file_message o) outputs) → Appends d e (summary_message plan o calls)
-    → Appends a e (messages plan inputs o calls)
-messages_all plan inputs o calls rows warnings outputs a b c d e rs ws os first second third fourth =
-    Appends-trans a b e _ _ (subst (λ xs. Appends a b (flat_map (row_message inputs) xs)) rs first)
-    (Appends-trans b c e _ _ (subst (λ xs. Appends b c (flat_map (warning_message inputs) xs)) ws second)
-    (Appends-trans c d e _ _ (subst (λ xs. Appends c d (flat_map (file_message o) xs)) os third) fourth))
+    → Appends c d (flat_map (file_message o) outputs) → Appends d e (held_back_message (held_back plan o))
+    → Appends e f (summary_message plan o calls) → Appends a f (messages plan inputs o calls)
+messages_all plan inputs o calls rows warnings outputs a b c d e f rs ws os first second third fourth fifth =
+    Appends-trans a b f _ _ (subst (λ xs. Appends a b (flat_map (row_message inputs) xs)) rs first)
+    (Appends-trans b c f _ _ (subst (λ xs. Appends b c (flat_map (warning_message inputs) xs)) ws second)
+    (Appends-trans c d f _ _ (subst (λ xs. Appends c d (flat_map (file_message o) xs)) os third)
+    (Appends-trans d e f _ _ fourth fifth)))

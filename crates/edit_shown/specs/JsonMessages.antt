@@ -10,6 +10,7 @@ use Rattle.edit_report.specs.declared.row.Reason.{Reason}
 use Rattle.edit_report.specs.declared.row.Reason.TheVariants as reason
 use Rattle.edit_report.specs.declared.row.Row.{Row}
 use Rattle.edit_shown.specs.Fields.{list_data, step_data, text_data, text_or_null}
+use Rattle.edit_shown.specs.declared.held_back.HeldBack.{HeldBack}
 use Rattle.edit_shown.specs.declared.json.messages.Summary.{Summary}
 
 -- members by their keys (own)
@@ -49,6 +50,7 @@ change_name None = None
 change_name (Some change.Explicit) = Some (codes "explicit")
 change_name (Some change.Latest) = Some (codes "latest")
 change_name (Some change.Compatible) = Some (codes "compatible")
+change_name (Some change.Unified) = Some (codes "unified")
 
 -- a row of a manifest's report (own)
 abbrev pub row_members : List ℕ → Row → MessageMembers
@@ -80,6 +82,15 @@ file_members manifest written =
     (codes "reason", string (codes "upgrade-file"))
     ∷ (codes "manifest_path", string manifest)
     ∷ (codes "written", boolean written)
+    ∷ []
+
+-- what was held back for the age of versions (own)
+abbrev pub held_back_members : HeldBack → MessageMembers
+held_back_members held =
+    (codes "reason", string (codes "upgrade-held-back"))
+    ∷ (codes "younger", list_data text_data held.younger.items)
+    ∷ (codes "undated", list_data text_data held.undated.items)
+    ∷ (codes "registries_without_times", list_data text_data held.registries.items)
     ∷ []
 
 -- the summary of an upgrade (own)

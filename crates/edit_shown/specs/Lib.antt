@@ -12,3 +12,5 @@ pub mod Markdown
 pub mod RequirementLines
 pub mod Annotations
 pub mod InputDocuments
+pub mod HeldBack
+pub mod Numbered

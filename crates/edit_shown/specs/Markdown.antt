@@ -35,6 +35,7 @@ change_text None = []
 change_text (Some change.Explicit) = codes "explicit"
 change_text (Some change.Latest) = codes "latest"
 change_text (Some change.Compatible) = codes "compatible"
+change_text (Some change.Unified) = codes "unified"
 
 -- the cells of a row, up to that of the members (own)
 abbrev pub row_cells : Row → List ℕ

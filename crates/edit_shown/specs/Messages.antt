@@ -1,11 +1,12 @@
 -- JSON messages, one a line (own).
-use Rattle.std.specs.Prelude.{ℕ, List, [], ◌∷◌, ◌++◌, not, ◌||◌, String, Vec, codes, map, slice_get, string_bytes}
+use Rattle.std.specs.Prelude.{ℕ, List, [], ◌∷◌, ◌++◌, if◌then◌else◌, not, ◌||◌, String, Vec, codes, map, slice_get, string_bytes}
 use Rattle.std.specs.List.{flat_map}
 use Rattle.std.specs.Option.{option_map_or}
 use Rattle.std.specs.declared.alloc.Global.{Global}
 use Rattle.serde_json.specs.Data.{boolean, string}
 use Rattle.edit_upgrade.specs.declared.decision.options.Options.{Options}
 use Rattle.edit_shown.specs.Fields.{list_data, text_data}
+use Rattle.edit_shown.specs.HeldBack.{Lists, held_back, is_nothing}
 use Rattle.edit_shown.specs.JsonMessages.{MessageMembers, change_members, file_members, message_text, row_members, warning_members}
 use Rattle.edit_metadata.specs.declared.input.Input.{Input}
 use Rattle.edit_report.specs.declared.output.Output.{Output}
@@ -50,13 +51,27 @@ summary_members plan o calls =
 abbrev pub summary_message : UpgradePlan → Options → List (List (List ℕ)) → List ℕ
 summary_message plan o calls = message_text (summary_members plan o calls)
 
--- an upgrade: its rows, its warnings, the manifests that change, the summary (own)
+-- the members of the message on what was held back for the age of versions (own)
+abbrev pub held_back_members : Lists → MessageMembers
+held_back_members lists =
+    (codes "reason", string (codes "upgrade-held-back"))
+    ∷ (codes "younger", list_data string lists.younger)
+    ∷ (codes "undated", list_data string lists.undated)
+    ∷ (codes "registries_without_times", list_data string lists.registries)
+    ∷ []
+
+-- what was held back for the age of versions, if there is something (own)
+abbrev pub held_back_message : Lists → List ℕ
+held_back_message lists = if is_nothing lists then [] else message_text (held_back_members lists)
+
+-- an upgrade: its rows, its warnings, the manifests that change, what was held back, the summary (own)
 abbrev pub messages : UpgradePlan → List Input → Options → List (List (List ℕ)) → List ℕ
 messages plan inputs o calls =
     flat_map (row_message inputs) plan.rows.items
     ++ (flat_map (warning_message inputs) plan.warnings.items
     ++ (flat_map (file_message o) plan.outputs.items
-    ++ summary_message plan o calls))
+    ++ (held_back_message (held_back plan o)
+    ++ summary_message plan o calls)))
 
 -- a line of new versions: an action and its text (own)
 abbrev pub line_texts : String Global × String Global → List ℕ × List ℕ

@@ -15,7 +15,8 @@ mod texts;
 use crate::annotations::documents::{
     InputDocument, bytes_at, next_document, read_input, requirement_line,
 };
-use crate::annotations::texts::{annotation, is_annotated, row_text};
+pub(crate) use crate::annotations::texts::row_text;
+use crate::annotations::texts::{annotation, is_annotated};
 use crate::messages::path_at;
 use crate::paths::relative_path;
 use edit_base::CargoResult;

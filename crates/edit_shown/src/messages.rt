@@ -4,10 +4,14 @@ ghost use Rattle.std.specs.Io.KnownBytes.{Appends};
 ghost use Rattle.std.specs.List.{flat_map};
 ghost use Rattle.edit_base.specs.Errors.{IsMemory};
 ghost use Rattle.edit_base.specs.declared.errors.Error.TheVariants as error;
+ghost use Rattle.edit_shown.specs.HeldBack.{held_back};
 ghost use Rattle.edit_shown.specs.JsonMessages.{summary_members};
 ghost use Rattle.edit_shown.specs.Messages as spec;
 
-use crate::json::{Summary, file_message, row_message, summary_message, warning_message};
+use crate::held_back::list_held_back;
+use crate::json::{
+    Summary, file_message, held_back_message, row_message, summary_message, warning_message,
+};
 use edit_base::CargoResult;
 use edit_metadata::Input;
 use edit_report::{Output, Row, shell_write_stdout};
@@ -123,6 +127,25 @@ fn print_files<O: io::Write>(
     Ok(())
 }
 
+/// Prints the message of what was held back for the age of versions, if there is something.
+fn print_held_back<O: io::Write>(
+    alloc: Global,
+    plan: &UpgradePlan,
+    options: &Options,
+    out: &mut O,
+) -> CargoResult<()>
+    ensures text { OnOk result (Appends (O.contents out.old) (O.contents out.new)
+        (spec.held_back_message (held_back plan.now options.now))) }
+    ensures error { IfErr result (λ e. IsMemory e ⊎ (e ≡ error.Output)) }
+{
+    let held = list_held_back(alloc, plan, options)?;
+    if held.is_empty() {
+        return Ok(());
+    }
+    let line = held_back_message(alloc, &held)?;
+    shell_write_stdout(out, line.as_str())
+}
+
 /// The summary of a plan and its calls.
 fn summary_of<'a>(plan: &'a UpgradePlan, options: &Options, calls: &'a [Vec<String>]) -> Summary<'a>
     ensures { summary_members result
@@ -155,8 +178,8 @@ fn print_summary<O: io::Write>(
     shell_write_stdout(out, line.as_str())
 }
 
-/// Prints an upgrade as JSON, one message a line: its rows, its warnings, the manifests that change, the
-/// summary.
+/// Prints an upgrade as JSON, one message a line: its rows, its warnings, the manifests that change, what was
+/// held back for the age of versions, the summary.
 pub fn print_messages<O: io::Write>(
     alloc: Global,
     plan: &UpgradePlan,
@@ -172,5 +195,6 @@ pub fn print_messages<O: io::Write>(
     print_rows(alloc, inputs, plan.rows.as_slice(), out)?;
     print_warnings(alloc, inputs, plan.warnings.as_slice(), out)?;
     print_files(alloc, options, plan.outputs.as_slice(), out)?;
+    print_held_back(alloc, plan, options, out)?;
     print_summary(alloc, plan, options, calls, out)
 }

@@ -9,6 +9,8 @@ pub enum MessageFormat {
     Markdown,
     /// Annotations of GitHub Actions.
     Github,
+    /// The rows that change, numbered.
+    Numbered,
 }
 
 /// What is printed of a plan on standard output.

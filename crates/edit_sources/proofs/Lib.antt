@@ -16,3 +16,5 @@ pub mod RunLemmas
 pub mod SameLookups
 pub mod SourceLemmas
 pub mod SplitLineLemmas
+pub mod WithheldLemmas
+pub mod FileIndexLemmas

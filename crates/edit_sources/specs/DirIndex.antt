@@ -1,5 +1,5 @@
 -- The results of a lookup in a folder of registries (Cargo reference, "Registries", index format).
-use Rattle.std.specs.Prelude.{◌≡◌, ℕ, List, Option, Some, None, Ok, Err, true, false, ◌⊎◌, string_bytes}
+use Rattle.std.specs.Prelude.{◌≡◌, ℕ, List, Option, Some, None, Ok, Err, option_map, true, false, ◌⊎◌, string_bytes}
 use Rattle.url.specs.Parts.{Parts}
 use Rattle.edit_version.specs.IndexEntry.{IndexEntry}
 use Rattle.edit_sources.specs.Index.{IndexView, Outcome, bad_line, bad_name}
@@ -11,6 +11,8 @@ use Rattle.edit_sources.specs.Folders.{entry_path}
 use Rattle.edit_sources.specs.Published.{published_view}
 use Rattle.edit_sources.specs.declared.index_dir.dir_index.DirIndex.{DirIndex}
 use Rattle.edit_sources.specs.declared.published.PublishedBefore.{PublishedBefore}
+use Rattle.edit_sources.specs.Withheld.{of_text}
+use Rattle.edit_sources.specs.declared.withheld.Withheld.{Withheld}
 
 -- the store that holds the index (own)
 abbrev pub store_of : {S : Type 0} → DirIndex S → S
@@ -48,6 +50,13 @@ pub record HasBadLine (folder : List ℕ) (store : StoreView) (address : Parts) 
   pub named : is_crate_name name ≡ true
   pub stands : HasBytesIn store (entry_path folder address name) bytes
   pub bad : IsBadLine (lines_of bytes) line
+
+-- this is held back of the crate by the lines of its file, if the contents of the store's files are known
+-- (own)
+abbrev pub HasWithheld : Option PublishedBefore → List ℕ → StoreView → Parts → List ℕ → Withheld → Type 0
+HasWithheld bound folder store address name withheld =
+    store.tells ≡ true
+    → Some withheld ≡ option_map (of_text bound) (store.file_at (entry_path folder address name))
 
 -- the results of a lookup: no file, the entries of its lines, an invalid crate name, or the number of the
 -- first malformed line (own)

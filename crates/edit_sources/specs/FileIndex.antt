@@ -1,5 +1,5 @@
 -- The results of a lookup in an index in a single file (own).
-use Rattle.std.specs.Prelude.{◌≡◌, ℕ, List, [], ◌∷◌, ◌++◌, Option, Some, None, Ok, Err, true, false, map, ◌⊎◌, String, Vec, string_bytes}
+use Rattle.std.specs.Prelude.{◌≡◌, ℕ, List, [], ◌∷◌, ◌++◌, Option, Some, None, Ok, Err, true, false, map, ◌⊎◌, String, Vec, string_bytes, unwrap_or}
 use Rattle.std.specs.List.{All, filter}
 use Rattle.std.specs.Option.{option_map_or}
 use Rattle.std.specs.Str.{bytes_eq}
@@ -10,6 +10,9 @@ use Rattle.edit_version.specs.IndexEntry.{IndexEntry, entry_of}
 use Rattle.edit_sources.specs.Index.{IndexView, Outcome, bad_name}
 use Rattle.edit_sources.specs.IndexLines.{HaveEntriesInOrder, lines_of}
 use Rattle.edit_sources.specs.Names.{is_crate_name}
+use Rattle.edit_sources.specs.Withheld.{nothing, of_crate_in}
+use Rattle.edit_sources.specs.declared.published.PublishedBefore.{PublishedBefore}
+use Rattle.edit_sources.specs.declared.withheld.Withheld.{Withheld}
 use Rattle.edit_sources.specs.declared.file_index.FileIndex.{FileIndex}
 
 -- the entries of a crate, in the order of the lines (own)
@@ -42,17 +45,34 @@ IsAdded before entries after =
     ≡ option_map_or (λ g. g.items) (get_by_text before name) []
     ++ filter (λ e. bytes_eq name (string_bytes e.name)) entries
 
+-- what is held back of a crate; none where the file has no line of it, and without a bound (own)
+abbrev pub withheld_at : FileIndex → List ℕ → Option Withheld
+withheld_at index name = get_by_text index.withheld name
+
+-- this is held back of a crate: nothing where the file has no line of it, and without a bound (own)
+abbrev pub HasWithheld : FileIndex → List ℕ → Withheld → Type 0
+HasWithheld index name withheld = withheld ≡ unwrap_or (withheld_at index name) nothing
+
+-- each name has what is held back of the crate by its lines (own)
+abbrev pub HoldsWithheld : FileIndex → Option PublishedBefore → List ℕ → Type 0
+HoldsWithheld index bound bytes = (name : List ℕ) → withheld_at index name ≡ of_crate_in bound bytes name
+
 -- the list if it is not empty (own)
 abbrev pub if_any : List IndexEntry → Option (List IndexEntry)
 if_any [] = None
 if_any (e ∷ es) = Some (e ∷ es)
 
+-- the entries of a crate: none where the file has no line of it, also none that is left out (own)
+abbrev pub if_known : Option Withheld → List IndexEntry → Option (List IndexEntry)
+if_known None entries = if_any entries
+if_known (Some withheld) entries = Some entries
+
 -- the results of a lookup, for every address: an error for an invalid crate name, else the entries of that
--- name (own)
+-- name, if the file has lines of it (own)
 abbrev pub FileGives : FileIndex → List ℕ → Outcome → Type 0
 FileGives index name outcome =
     ((is_crate_name name ≡ false) × (outcome ≡ Err (bad_name name)))
-    ⊎ ((is_crate_name name ≡ true) × (outcome ≡ Ok (if_any (named index name))))
+    ⊎ ((is_crate_name name ≡ true) × (outcome ≡ Ok (if_known (withheld_at index name) (named index name))))
 
 -- the model of an index in a single file, which never fails (own)
 abbrev pub file_view : FileIndex → IndexView

@@ -14,3 +14,4 @@ pub mod DirIndex
 pub mod Folders
 pub mod LineFields
 pub mod Published
+pub mod Withheld

@@ -1,5 +1,5 @@
 -- The results of a lookup in an index of one file per crate (Cargo reference, "Registries", index format).
-use Rattle.std.specs.Prelude.{◌≡◌, ℕ, ◌-◌, List, ◌++◌, Option, Some, None, Ok, Err, Bool, true, false, codes, length, slice_index, ◌⊎◌, ◌==◌, if◌then◌else◌}
+use Rattle.std.specs.Prelude.{◌≡◌, ℕ, ◌-◌, List, ◌++◌, Option, Some, None, Ok, Err, Bool, true, false, codes, length, option_map, slice_index, ◌⊎◌, ◌==◌, if◌then◌else◌}
 use Rattle.std.specs.List.{list_any}
 use Rattle.std.specs.Str.{IsUtf8}
 use Rattle.percent_encoding.specs.Percent.{percent_decode}
@@ -12,6 +12,8 @@ use Rattle.edit_store.specs.Store.{StoreView}
 use Rattle.edit_sources.specs.Published.{published_view}
 use Rattle.edit_sources.specs.declared.local_index.LocalIndex.{LocalIndex}
 use Rattle.edit_sources.specs.declared.published.PublishedBefore.{PublishedBefore}
+use Rattle.edit_sources.specs.Withheld.{of_text}
+use Rattle.edit_sources.specs.declared.withheld.Withheld.{Withheld}
 
 -- the store that holds the index (own)
 abbrev pub store_of : {S : Type 0} → LocalIndex S → S
@@ -97,6 +99,14 @@ pub record HasBadLine (store : StoreView) (address : Parts) (name : List ℕ) (l
   pub at : IsIndexPath address name path
   pub stands : HasBytesIn store path bytes
   pub bad : IsBadLine (lines_of bytes) line
+
+-- this is held back of the crate by the lines of its file, if the contents of the store's files are known
+-- (own)
+pub record HasWithheld (bound : Option PublishedBefore) (store : StoreView) (address : Parts)
+    (name : List ℕ) (withheld : Withheld) : Type 0 where
+  pub path : List ℕ
+  pub at : IsIndexPath address name path
+  pub is : store.tells ≡ true → Some withheld ≡ option_map (of_text bound) (store.file_at path)
 
 -- the results of a lookup: no file, the entries of its lines, an error of the path, or the number of the
 -- first malformed line (own)

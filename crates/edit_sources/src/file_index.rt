@@ -1,15 +1,21 @@
 //! An index in a single file, which is read once.
-ghost use Rattle.std.specs.Prelude.{◌≡◌, ℕ, List, false, IfOk, IfErr, slice_get, string_bytes};
+ghost use Rattle.std.specs.Prelude.{◌≡◌, ℕ, [], List, None, Ok, false, IfOk, IfErr, IfSome, map, slice_get, string_bytes, unwrap_or};
 ghost use Rattle.std.specs.Option.{option_map_or};
 ghost use Rattle.std.specs.Str.{bytes_eq};
-ghost use Rattle.edit_sources.specs.FileIndex.{AreNamed, GroupsByName, IsAdded, HoldsLines, file_view};
+ghost use Rattle.edit_base.specs.Errors.{IsMemory};
+ghost use Rattle.edit_version.specs.IndexEntry.{entry_of};
+ghost use Rattle.edit_sources.specs.FileIndex.{AreNamed, FileGives, GroupsByName, HasWithheld, HoldsLines, HoldsWithheld, IsAdded, file_view, if_known};
+ghost use Rattle.edit_sources.specs.Index.{HasLookupCause, SameOutcomes, answer_of};
 ghost use Rattle.edit_sources.specs.IndexLines.{IsLinesError, lines_of};
 ghost use Rattle.edit_sources.specs.Published.{text_by};
+ghost use Rattle.edit_sources.specs.Withheld.{nothing, withheld_of};
 
 use crate::crate_name::is_crate_name;
 use crate::index::{Index, IndexKrate, clone_versions};
 use crate::index_lines::read_lines;
-use crate::published::{PublishedBefore, retain_published};
+use crate::published::PublishedBefore;
+use crate::withheld::Withheld;
+use crate::withheld_crates::{RetainedCrates, WithheldCrates, retain_crates};
 use edit_base::errors::{CargoResult, Error};
 use edit_version::fetch::IndexVersion;
 use std::alloc::{AllocError, Global};
@@ -21,17 +27,21 @@ use url::Url;
 #[derive(Debug, Drop)]
 pub struct FileIndex {
     groups: BTreeMap<String, Vec<IndexVersion>>,
+    /// What was held back of each crate that the file has lines of; empty without a bound.
+    withheld: WithheldCrates,
 }
 
 impl FileIndex {
     /// Parses the lines of an index; `Error::IndexLine` with the number of the first malformed line.
     pub fn read(alloc: Global, bytes: &[u8]) -> CargoResult<FileIndex>
         ensures entries { IfOk result (λ i. HoldsLines i bytes.now) }
+        ensures withheld { IfOk result (λ i. HoldsWithheld i None bytes.now) }
         ensures error { IfErr result (IsLinesError (lines_of bytes.now)) }
     {
         let entries = read_lines(alloc, bytes)?;
         Ok(FileIndex {
             groups: group_by_crate(alloc, entries)?,
+            withheld: BTreeMap::new(alloc),
         })
     }
 
@@ -43,13 +53,28 @@ impl FileIndex {
         bound: Option<PublishedBefore>,
     ) -> CargoResult<FileIndex>
         ensures entries { IfOk result (λ i. HoldsLines i (text_by bound bytes.now)) }
+        ensures withheld { IfOk result (λ i. HoldsWithheld i bound bytes.now) }
         ensures error { IfErr result (IsLinesError (lines_of bytes.now)) }
     {
         let Some(bound) = bound else {
             return FileIndex::read(alloc, bytes);
         };
-        let published = retain_published(alloc, bytes, bound)?;
-        FileIndex::read(alloc, &published)
+        let retained = retain_crates(alloc, bytes, bound)?;
+        let RetainedCrates { published, crates } = retained;
+        match FileIndex::read(alloc, &published) {
+            Ok(index) => Ok(index.with_withheld(crates)),
+            Err(error) => Err(error),
+        }
+    }
+
+    /// The same lines, and what was held back of crates.
+    fn with_withheld(self, withheld: WithheldCrates) -> FileIndex
+        ensures groups { result.groups ≡ self.groups }
+        ensures withheld { result.withheld ≡ withheld }
+    {
+        let mut index = self;
+        index.withheld = withheld;
+        index
     }
 }
 
@@ -109,6 +134,40 @@ fn add_run(
     Ok(())
 }
 
+/// The answer for a crate of which nothing is left.
+fn empty_krate(alloc: Global, withheld: Option<Withheld>) -> Option<IndexKrate>
+    ensures answer { answer_of result ≡ if_known withheld [] }
+    ensures withheld { withheld_of result ≡ withheld }
+{
+    match withheld {
+        Some(withheld) => Some(IndexKrate {
+            versions: Vec::new(alloc),
+            withheld,
+        }),
+        None => None,
+    }
+}
+
+/// The answer for a crate with these entries; `None` where there are none, and nothing was held back.
+fn krate_of(
+    alloc: Global,
+    entries: Option<&Vec<IndexVersion>>,
+    withheld: Option<Withheld>,
+) -> CargoResult<Option<IndexKrate>>
+    ensures answer { IfOk result (λ k. answer_of k
+        ≡ if_known withheld (map entry_of (option_map_or (λ g. g.now.items) entries.entry []))) }
+    ensures withheld { IfOk result (λ k. IfSome k (λ k. k.withheld ≡ unwrap_or withheld nothing)) }
+    ensures error { IfErr result IsMemory }
+{
+    match entries {
+        Some(entries) if !entries.is_empty() => Ok(Some(IndexKrate {
+            versions: clone_versions(alloc, entries)?,
+            withheld: withheld.unwrap_or(Withheld::nothing()),
+        })),
+        _ => Ok(empty_krate(alloc, withheld)),
+    }
+}
+
 impl Index for FileIndex {
     ghost view = { file_view };
 
@@ -117,18 +176,20 @@ impl Index for FileIndex {
         alloc: Global,
         _registry: &Url,
         name: &str,
-    ) -> CargoResult<Option<IndexKrate>> {
+    ) -> CargoResult<Option<IndexKrate>>
+        ensures same { SameOutcomes (file_view self.old).gives (file_view self.new).gives }
+        ensures given { IfOk result (λ k. FileGives self.old name.now (Ok (answer_of k))) }
+        ensures cause { HasLookupCause (file_view self.old) (file_view self.new) _registry.now name.now
+            result }
+        ensures withheld { IfOk result (λ k. IfSome k (λ k. HasWithheld self.old name.now k.withheld)) }
+    {
         if !is_crate_name(name) {
             return Err(Error::BadCrateName {
                 name: String::from_str(alloc, name)?,
             });
         }
-        match self.groups.get(name) {
-            Some(entries) if !entries.is_empty() => Ok(Some(IndexKrate {
-                versions: clone_versions(alloc, entries)?,
-            })),
-            _ => Ok(None),
-        }
+        let withheld = self.withheld.get(name).copied();
+        krate_of(alloc, self.groups.get(name), withheld)
     }
 
     fn faults(&self) -> u64 {

@@ -4,6 +4,7 @@ ghost use Rattle.edit_base.specs.Errors.{IsMemory};
 ghost use Rattle.edit_version.specs.IndexEntry.{entry_of};
 ghost use Rattle.edit_sources.specs.Index.{HasLookupCause, IndexView, SameOutcomes, answer_of, entries_of};
 
+use crate::withheld::Withheld;
 use edit_base::errors::CargoResult;
 use edit_version::fetch::IndexVersion;
 use std::alloc::Global;
@@ -13,16 +14,20 @@ use url::Url;
 #[derive(Debug, PartialEq, Eq, Drop)]
 pub struct IndexKrate {
     pub versions: Vec<IndexVersion>,
+    /// What an index with a bound on the time of publication left out.
+    pub withheld: Withheld,
 }
 
 impl IndexKrate {
     /// Returns a deep copy of the entries.
     pub fn try_clone(&self, alloc: Global) -> CargoResult<IndexKrate>
         ensures ok { IfOk result (λ k. entries_of k ≡ entries_of self.now) }
+        ensures withheld { IfOk result (λ k. k.withheld ≡ self.now.withheld) }
         ensures error { IfErr result IsMemory }
     {
         Ok(IndexKrate {
             versions: clone_versions(alloc, &self.versions)?,
+            withheld: self.withheld,
         })
     }
 }

@@ -12,6 +12,8 @@ mod line_reader;
 pub mod local_index;
 pub mod published;
 pub mod registry;
+pub mod withheld;
+mod withheld_crates;
 
 pub use config::{Config, ConfigCache, ConfigSource};
 pub use crate_name::is_crate_name;
@@ -19,3 +21,4 @@ pub use file_index::FileIndex;
 pub use index::{Index, IndexKrate};
 pub use local_index::LocalIndex;
 pub use published::{PublishedBefore, retain_published};
+pub use withheld::Withheld;

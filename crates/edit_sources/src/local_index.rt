@@ -1,8 +1,8 @@
 //! An index of one file per crate.
-ghost use Rattle.std.specs.Prelude.{◌≡◌, None, Ok, IfOk};
+ghost use Rattle.std.specs.Prelude.{◌≡◌, None, Ok, IfOk, IfSome};
 ghost use Rattle.edit_store.specs.Store.{OnlyReads};
 ghost use Rattle.edit_sources.specs.Index.{HasLookupCause, SameOutcomes, answer_of};
-ghost use Rattle.edit_sources.specs.LocalIndex.{LocalGives, bound_of, files_of, local_view, store_of};
+ghost use Rattle.edit_sources.specs.LocalIndex.{HasWithheld, LocalGives, bound_of, files_of, local_view, store_of};
 ghost use Rattle.edit_sources.specs.Published.{published_view};
 
 use crate::index::{Index, IndexKrate};
@@ -51,6 +51,8 @@ impl<S: Store> Index for LocalIndex<S> {
             (Ok (answer_of k))) }
         ensures cause { HasLookupCause (local_view (files_of S.view self.old))
             (local_view (files_of S.view self.new)) registry.now name.now result }
+        ensures withheld { IfOk result (λ k. IfSome k (λ k. HasWithheld (bound_of self.old)
+            (S.view (store_of self.old)) registry.now name.now k.withheld)) }
         // no file changes
         ensures reads { OnlyReads (S.view (store_of self.old)) (S.view (store_of self.new)) }
     {
@@ -58,13 +60,14 @@ impl<S: Store> Index for LocalIndex<S> {
             Ok(path) => path,
             Err(error) => return Err(error),
         };
-        let bytes = match read_published(&mut self.store, alloc, path.as_str(), self.bound) {
-            Ok(Some(bytes)) => bytes,
+        let text = match read_published(&mut self.store, alloc, path.as_str(), self.bound) {
+            Ok(Some(text)) => text,
             Ok(None) => return Ok(None),
             Err(error) => return Err(error),
         };
-        match read_lines(alloc, &bytes) {
-            Ok(versions) => Ok(Some(IndexKrate { versions })),
+        let withheld = text.withheld;
+        match read_lines(alloc, &text.bytes) {
+            Ok(versions) => Ok(Some(IndexKrate { versions, withheld })),
             Err(error) => Err(error),
         }
     }

@@ -3,7 +3,7 @@ use Rattle.std.specs.Prelude.{◌≡◌, ◌⊎◌, ℕ, List, [], ◌∷◌, Op
 use Rattle.edit_metadata.specs.Workspaces.{workspace_view}
 use Rattle.edit_metadata.specs.declared.input.Input.{Input}
 use Rattle.edit_metadata.specs.declared.workspace.Workspace.{Workspace}
-use Rattle.edit_sources.specs.FileIndex.{HoldsLines}
+use Rattle.edit_sources.specs.FileIndex.{HoldsLines, HoldsWithheld}
 use Rattle.edit_sources.specs.Published.{text_by}
 use Rattle.edit_sources.specs.declared.file_index.FileIndex.{FileIndex}
 use Rattle.edit_sources.specs.declared.published.PublishedBefore.{PublishedBefore}
@@ -41,7 +41,8 @@ abbrev pub AreDocuments : List DocumentViews → List Input → Type 0
 AreDocuments documents inputs =
     (documents ≡ []) ⊎ (map (λ d. d.bytes) documents ≡ map (λ input. input.bytes.items) inputs)
 
--- the given index file was read: its lines, with a bound those of versions that were published by then
+-- the given index file was read: its lines, with a bound those of versions that were published by then, and
+-- what the bound held back of each crate
 pub record IsIndexAt (bound : Option PublishedBefore) (files : Files) (current named : List ℕ)
     (index : FileIndex) : Type 0 where
   pub path : List ℕ
@@ -49,6 +50,7 @@ pub record IsIndexAt (bound : Option PublishedBefore) (files : Files) (current n
   pub at : IsAbsoluteOf current named path
   pub is : files path ≡ Some bytes
   pub holds : HoldsLines index (text_by bound bytes)
+  pub withheld : HoldsWithheld index bound bytes
 
 -- the given index: the index file was read where one is given, else the index folder has this path where
 -- one is given, else it is the index in files

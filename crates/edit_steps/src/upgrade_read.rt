@@ -12,7 +12,7 @@ mod source_request;
 mod sources;
 mod target;
 
-pub use index::IndexSource;
+pub use index::{IndexSource, read_index};
 pub use shared::SharedConfigs;
 pub use source_request::{RustChoice, SourceRequest};
 pub use sources::{Sources, read_sources};

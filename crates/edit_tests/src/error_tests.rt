@@ -68,7 +68,8 @@ Try adding `--workspace`.|38|~\
 46 out of memory|46|~\
 47 error: unexpected argument '--x' found\n\nUsage: edit\n\nFor more information, try '--help'.\n|47|~\
 48 permission denied|48|~\
-49 Edit would change more than its place|49|";
+49 Edit would change more than its place|49|~\
+50 Invalid policy|50|";
 
 /// The number and the message of the error of a row.
 fn text(rt: &impl Abort, alloc: Global, number: &str, parts: &str) -> String {

@@ -45,3 +45,9 @@ pub mod CachedAnswer
 mod PinFacts
 mod UpdateFacts
 pub mod AddressCaches
+pub mod OneAddress
+pub mod RevisionLemmas
+pub mod RevisedInputs
+pub mod RevisedRows
+pub mod RevisedPlans
+pub mod RevisedOutputs

@@ -25,7 +25,7 @@ only-output {Y} path text s old outputs o e none one at bytes =
     (λ x. IsOnlyOutput path (string_bytes x) outputs)) (sym e) (o, is, at, bytes)
 
 -- the one output of a text that differs, or none
-outputs-are : {Y : Type 0} (path bytes : List ℕ) (d : DocumentViews) (edits : Edits) (text : Option (String Y))
+pub outputs-are : {Y : Type 0} (path bytes : List ℕ) (d : DocumentViews) (edits : Edits) (text : Option (String Y))
     (outputs : List Output) → d.bytes ≡ bytes
     → MatchOption text (edits ≡ []) (λ s. IsRewritten d edits (string_bytes s))
     → MatchOption text (outputs ≡ []) (λ s. IsOnlyOutput path (string_bytes s) outputs)

@@ -53,7 +53,7 @@ failure-has (Ok x) e P same h = tt
 failure-has (Err other) e P same h = subst P (sym same) h
 
 -- they are seen in whatever form
-seen-in : (bytes : List ℕ) (es : List RowEntry) → (a : AreRowEntries bytes es) → (f : Text) → IsDocument bytes f
+pub seen-in : (bytes : List ℕ) (es : List RowEntry) → (a : AreRowEntries bytes es) → (f : Text) → IsDocument bytes f
     → row_entries (view_at f) ≡ es
 seen-in bytes es a f m = ap (λ (x : Text). row_entries (view_at x)) (one_form bytes f a.form m a.manifest)
     ∙ sym a.are

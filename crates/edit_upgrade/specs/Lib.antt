@@ -33,3 +33,4 @@ pub mod PinViews
 pub mod Pins
 pub mod UpdateCalls
 pub mod Views
+pub mod Revisions

@@ -72,7 +72,7 @@ impl Draft {
 }
 
 /// Appends items to a list.
-fn push_all<T: Drop>(list: &mut Vec<T>, own: Vec<T>) -> Result<(), AllocError>
+pub(crate) fn push_all<T: Drop>(list: &mut Vec<T>, own: Vec<T>) -> Result<(), AllocError>
     ensures ok { OnOk result (list.new.items ≡ list.old.items ++ own.items) }
 {
     'own: for item in own {
@@ -82,7 +82,11 @@ fn push_all<T: Drop>(list: &mut Vec<T>, own: Vec<T>) -> Result<(), AllocError>
 }
 
 /// The output for the manifest at a path: none where its text does not change.
-fn outputs_of(alloc: Global, path: &str, text: Option<String>) -> Result<Vec<Output>, AllocError>
+pub(crate) fn outputs_of(
+    alloc: Global,
+    path: &str,
+    text: Option<String>,
+) -> Result<Vec<Output>, AllocError>
     ensures ok { IfOk result (λ v. MatchOption text (v.items ≡ [])
         (λ s. IsOnlyOutput path.now (string_bytes s) v.items)) }
 {

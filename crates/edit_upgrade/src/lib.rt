@@ -15,6 +15,7 @@ mod package_selection;
 mod parsed_options;
 mod plan;
 mod planned;
+mod revision;
 mod rows;
 pub mod update;
 pub mod upgrade;
@@ -23,4 +24,5 @@ mod writes;
 
 pub use decision::Options;
 pub use plan::{plan_documents, plan_shared, plan_upgrade};
+pub use revision::{revised_plan, row_addresses};
 pub use upgrade::{Look, UpgradePlan, Warning};

@@ -3,7 +3,8 @@ ghost use Rattle.std.specs.Prelude.{◌≡◌, ◌⊎◌, ◌&&◌, if◌then◌
 ghost use Rattle.std.specs.Str.{bytes_eq};
 ghost use Rattle.edit_base.specs.Errors.{IsMemory};
 ghost use Rattle.edit_sources.specs.Index.{answer_of};
-ghost use Rattle.edit_cache.specs.IndexCache.{index_of};
+ghost use Rattle.edit_sources.specs.Withheld.{withheld_of};
+ghost use Rattle.edit_cache.specs.IndexCache.{index_of, krate_at};
 ghost use Rattle.url.specs.Parts.{serialize};
 ghost use Rattle.edit_upgrade.specs.LookupSteps.{IsAt, IsLookupMade, IsLookupError, IsStep, Leaves};
 ghost use Rattle.edit_upgrade.specs.Lookups.{cached_by};
@@ -24,6 +25,7 @@ pub(crate) type PairSet = BTreeMap<String, Names>;
 /// Copies an answer of the index into newly allocated memory.
 fn copied_answer(alloc: Global, answer: Option<&IndexKrate>) -> CargoResult<Option<IndexKrate>>
     ensures ok { IfOk result (λ o. answer_of o ≡ answer_of (option_copied answer.entry)) }
+    ensures withheld { IfOk result (λ o. withheld_of o ≡ withheld_of (option_copied answer.entry)) }
     ensures error { IfErr result IsMemory }
 {
     match answer {
@@ -73,6 +75,8 @@ fn record_lookup<I: Index>(
     ensures name { IfOk result (λ l. string_bytes l.name ≡ name.now) }
     ensures preserved { IfOk result
         (λ l. cached_by index.now (serialize registry.now) name.now ≡ Some (answer_of l.answer)) }
+    ensures withheld { IfOk result (λ l. withheld_of l.answer
+        ≡ withheld_of (krate_at index.now (serialize registry.now) name.now)) }
     ensures error { IfErr result IsMemory }
 {
     let answer = copied_answer(alloc, index.cached_krate(registry, name))?;

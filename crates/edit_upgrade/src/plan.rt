@@ -34,7 +34,7 @@ use edit_sources::{Config, Index};
 use std::alloc::Global;
 
 /// The document at an index, or `None` where the list is shorter.
-fn document_at(documents: &[Document], i: usize) -> Option<&Document>
+pub(crate) fn document_at(documents: &[Document], i: usize) -> Option<&Document>
     ensures { option_copied result ≡ slice_get documents.now i }
 {
     documents.get(i)
@@ -101,6 +101,7 @@ fn plan_all<I: Index>(
     requires paths { HaveOwnPaths inputs.now }
     ensures plan { IfOk result (IsPlan options.now inputs.now (lists_in configs.entry)
         (cache_view I.view index.old) (cache_view I.view index.new)) }
+    ensures utf8 { OnOk result (documents.now ≡ [] → All (λ x. IsUtf8 x.bytes.items) inputs.now) }
     ensures left { LeavesCache (IsNeeded inputs.now (lists_in configs.entry))
         (cache_view I.view index.old) (cache_view I.view index.new) }
     ensures given { IfErr result (λ e. length documents.now ≡ length inputs.now
@@ -169,6 +170,8 @@ pub fn plan_shared<I: Index>(
     // every guarantee of `plan_upgrade` on its plan, under the same name
     ensures plan { IfOk result (IsPlan options.now inputs.now (chosen_lists lists.now which.now)
         (cache_view I.view index.old) (cache_view I.view index.new)) }
+    // without documents the bytes of the inputs were read as text
+    ensures utf8 { OnOk result (documents.now ≡ [] → All (λ x. IsUtf8 x.bytes.items) inputs.now) }
     // also on an error the cache gains only answers that the plan needs, as the index gives them
     ensures left { LeavesCache (IsNeeded inputs.now (chosen_lists lists.now which.now))
         (cache_view I.view index.old) (cache_view I.view index.new) }

@@ -41,6 +41,9 @@ switches =
     ∷ count_rule (codes "quiet") 113
     ∷ flag_rule (codes "never-lower")
     ∷ flag_rule (codes "to-lockfile")
+    ∷ flag_rule (codes "unify")
+    ∷ flag_rule (codes "interactive")
+    ∷ flag_rule (codes "no-policy")
     ∷ []
 
 -- the options that say by when versions have to be published
@@ -58,6 +61,7 @@ choices =
     ∷ record (choice_rule (codes "incompatible")) { short = Some 105; defaults = codes "ignore" ∷ [] }
     ∷ record (choice_rule (codes "pinned")) { defaults = codes "ignore" ∷ [] }
     ∷ choice_rule (codes "level")
+    ∷ choice_rule (codes "rows")
     ∷ record (choice_rule (codes "recursive")) { parser = Some value.Bool }
     ∷ []
 

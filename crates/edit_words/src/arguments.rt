@@ -67,7 +67,7 @@ fn configurations<'a>() -> [ArgSpec<'a>; 2]
 }
 
 /// What says which versions of Rust count, and the flags.
-fn switches<'a>() -> [ArgSpec<'a>; 9]
+fn switches<'a>() -> [ArgSpec<'a>; 12]
     ensures { map arg_rule result ≡ rust_choices ++ switches }
 {
     [
@@ -101,6 +101,21 @@ fn switches<'a>() -> [ArgSpec<'a>; 9]
             Form::Flag,
             "Raise only to the versions in Cargo.lock",
         ),
+        plain(
+            "unify",
+            Form::Flag,
+            "Raises differing requirements of a crate to the highest",
+        ),
+        plain(
+            "interactive",
+            Form::Flag,
+            "Lists what would change as numbered rows, and changes nothing",
+        ),
+        plain(
+            "no-policy",
+            Form::Flag,
+            "Ignores the policy of the root manifest",
+        ),
     ]
 }
 
@@ -128,7 +143,7 @@ fn ages<'a>() -> [ArgSpec<'a>; 3]
 }
 
 /// The options that say what may be upgraded.
-fn choices<'a>() -> [ArgSpec<'a>; 5]
+fn choices<'a>() -> [ArgSpec<'a>; 6]
     ensures { map arg_rule result ≡ choices }
 {
     [
@@ -155,6 +170,11 @@ fn choices<'a>() -> [ArgSpec<'a>; 5]
             "level",
             Form::Choice("patch|minor|major"),
             "Upgrades only within this level of the old requirement",
+        ),
+        plain(
+            "rows",
+            Form::Choice("ROWS"),
+            "Changes only these rows: numbers as 1,3-5, names, all or none",
         ),
         plain(
             "recursive",

@@ -27,11 +27,12 @@ impl fmt::Display for MergedCommand {
     }
 }
 
-/// The kind of what no manifest has: a package or a dependency.
+/// The kind of what is missing: a package or a dependency that no manifest has, or a row that a plan has not.
 #[derive(Clone, Copy, Debug, PartialEq, Eq)]
 pub enum MissingKind {
     Package,
     Dependency,
+    Row,
 }
 
 /// Missing names, which print as `package a doesn't exist` or `packages a, b don't exist`.
@@ -46,6 +47,7 @@ impl fmt::Display for MissingNames {
         let (one, many) = match self.kind {
             MissingKind::Package => ("package", "packages"),
             MissingKind::Dependency => ("dependency", "dependencies"),
+            MissingKind::Row => ("row", "rows"),
         };
         match self.names.as_slice() {
             [name] => write!(f, "{one} {name} doesn't exist"),

@@ -56,9 +56,10 @@ fn print_lines_in<O: io::Write, E: io::Write>(
     ensures error { IfErr result (λ e. IsMemory e ⊎ (e ≡ Output)) }
 {
     match format {
-        MessageFormat::Human | MessageFormat::Markdown | MessageFormat::Github => {
-            print_lines(lines, err)
-        }
+        MessageFormat::Human
+        | MessageFormat::Markdown
+        | MessageFormat::Github
+        | MessageFormat::Numbered => print_lines(lines, err),
         MessageFormat::Json => print_changes(alloc, lines, out),
     }
 }

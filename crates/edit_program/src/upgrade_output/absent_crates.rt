@@ -1,7 +1,6 @@
 //! The crates that an index does not have.
-ghost use Rattle.std.specs.Prelude.{◌≡◌, ◌⊎◌, ◌++◌, IfErr, IfOk, OnOk, codes, map, string_bytes};
+ghost use Rattle.std.specs.Prelude.{◌≡◌, ◌⊎◌, ◌++◌, IfErr, IfOk, OnOk, map, string_bytes};
 ghost use Rattle.std.specs.Io.KnownBytes.{Appends};
-ghost use Rattle.std.specs.List.{join_by};
 ghost use Rattle.edit_base.specs.Errors.{IsMemory};
 ghost use Rattle.edit_base.specs.declared.errors.Error.TheVariants.{Output};
 ghost use Rattle.edit_metadata.specs.Reading.{holds};
@@ -9,15 +8,14 @@ ghost use Rattle.edit_upgrade.specs.Names.{HasNames};
 ghost use Rattle.edit_upgrade.specs.UpdateCalls.{is_among};
 ghost use Rattle.edit_program.specs.Absent as spec;
 
+use crate::upgrade_output::name_lists::{Noun, print_list};
 use edit_base::CargoResult;
-use edit_report::shell_note;
 use edit_upgrade::{Look, Options, UpgradePlan};
 use std::alloc::{AllocError, Global};
 use std::collections::BTreeSet;
 use std::io;
 
-/// The greatest number of names in a note.
-const MOST_NAMES: usize = 5;
+const ABSENT: &str = "no index entry was found";
 
 /// Collects names into a set.
 fn set_of<'a>(alloc: Global, names: &'a [String]) -> Result<BTreeSet<&'a str>, AllocError>
@@ -71,43 +69,6 @@ fn absent_names(
     Ok(names)
 }
 
-/// Names, joined by commas.
-fn join_names(alloc: Global, names: &[String]) -> Result<String, AllocError>
-    ensures { IfOk result (λ s. string_bytes s
-        ≡ join_by (λ name. name) (codes ", ") (map string_bytes names.now)) }
-{
-    names.join(alloc, ", ")
-}
-
-/// Names as a note lists them: at most five, and the number of the others.
-fn abbreviate_names(alloc: Global, names: &[String]) -> Result<String, AllocError>
-    ensures { IfOk result (λ s. string_bytes s ≡ spec.abbreviate_names (map string_bytes names.now)) }
-{
-    if names.len() <= MOST_NAMES {
-        return join_names(alloc, names);
-    }
-    let first = join_names(alloc, &names[..MOST_NAMES])?;
-    let rest = names.len() - MOST_NAMES;
-    format!(in alloc; "{first} and {rest} more")
-}
-
-/// `crate` or `crates`, by their number.
-fn crate_or_crates(count: usize) -> &'static str
-    ensures { result.now ≡ spec.crate_or_crates count }
-{
-    if count == 1 { "crate" } else { "crates" }
-}
-
-/// The note about crates that were not found in the index.
-fn absent_text(alloc: Global, names: &[String]) -> Result<String, AllocError>
-    ensures { IfOk result (λ s. string_bytes s ≡ spec.absent_text (map string_bytes names.now)) }
-{
-    let count = names.len();
-    let noun = crate_or_crates(count);
-    let list = abbreviate_names(alloc, names)?;
-    format!(in alloc; "no index entry was found for {count} {noun}: {list}")
-}
-
 /// Prints the note about crates that were not found in the index, where there are any. Offline nothing is
 /// printed: the tool that fills the index reports the missing entries then.
 pub(crate) fn print_absent<E: io::Write>(
@@ -127,9 +88,5 @@ pub(crate) fn print_absent<E: io::Write>(
     let exclude = options.exclude.as_slice();
     let lookups = plan.looks.as_slice();
     let names = absent_names(alloc, exclude, lookups)?;
-    if names.is_empty() {
-        return Ok(());
-    }
-    let text = absent_text(alloc, names.as_slice())?;
-    shell_note(err, text.as_str())
+    print_list(alloc, ABSENT, Noun::Crate, names.as_slice(), err)
 }

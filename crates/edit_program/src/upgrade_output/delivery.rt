@@ -22,7 +22,7 @@ use std::io;
 
 /// Prints a plan and writes its outputs. Then prints the calls of `cargo update` that follow, where there
 /// is a workspace, adapted to the lock file where there is one; writes them to the given file; fails for
-/// selected names that no entry has; and prints the notes.
+/// selected names that no entry has; and prints the notes on held crates and on the plan.
 ///
 /// Nothing is written with a dry run or where the manifests are locked. Outputs of a plan for locked
 /// manifests are an error.
@@ -65,5 +65,13 @@ pub fn deliver<S: Store, O: io::Write, E: io::Write>(
         files,
         err,
     )?;
-    conclude(alloc, task.plan, task.options, task.offline, err)
+    conclude(
+        alloc,
+        task.plan,
+        task.apart,
+        task.options,
+        task.crates,
+        task.offline,
+        err,
+    )
 }

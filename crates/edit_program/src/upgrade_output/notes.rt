@@ -1,12 +1,14 @@
 //! The notes at the end of an upgrade: how to see or raise more.
-ghost use Rattle.std.specs.Prelude.{◌≡◌, ◌⊎◌, IfErr, OnOk};
+ghost use Rattle.std.specs.Prelude.{◌≡◌, ◌⊎◌, IfErr, OnOk, map, string_bytes};
 ghost use Rattle.std.specs.Io.KnownBytes.{Appends};
 ghost use Rattle.edit_base.specs.Errors.{IsMemory};
 ghost use Rattle.edit_base.specs.declared.errors.Error.TheVariants.{Output};
 ghost use Rattle.edit_program.specs.StderrText.{hidden_rows, hidden_note, note, notes, warning, message_if};
 
 use crate::upgrade_output::absent_crates::print_absent;
+use crate::upgrade_output::held_back_notes::print_held_back;
 use crate::upgrade_output::hidden_rows_note::{hidden_rows, hidden_text};
+use crate::upgrade_output::name_lists::{Noun, print_list};
 use edit_base::CargoResult;
 use edit_report::{Row, shell_note, shell_warn};
 use edit_upgrade::{Options, UpgradePlan};
@@ -17,6 +19,8 @@ const PINNED: &str = "Re-run with `--pinned` to upgrade pinned version requireme
 
 const INCOMPATIBLE: &str =
     "Re-run with `--incompatible` to upgrade incompatible version requirements";
+
+const APART: &str = "incompatible ranges are required";
 
 const DRY_RUN: &str = "aborting upgrade due to dry run";
 
@@ -65,22 +69,26 @@ fn print_hidden<E: io::Write>(
     shell_note(err, text.as_str())
 }
 
-/// Prints the notes on a plan, the warning that a dry run wrote nothing, and the note on crates missing in
-/// the index.
+/// Prints the notes on a plan, the note on crates in more than one compatible range, the warning that a dry
+/// run wrote nothing, the note on crates missing in the index, and the notes on what was held back for the age
+/// of versions.
 pub(crate) fn print_notes<E: io::Write>(
     alloc: Global,
     plan: &UpgradePlan,
+    apart: &[String],
     options: &Options,
     offline: bool,
     err: &mut E,
 ) -> CargoResult<()>
     ensures text { OnOk result (Appends (E.contents err.old) (E.contents err.new)
-        (notes plan.now options.now offline)) }
+        (notes plan.now (map string_bytes apart.now) options.now offline)) }
     ensures error { IfErr result (λ e. IsMemory e ⊎ (e ≡ Output)) }
 {
     note_if(plan.pinned_present, PINNED, err)?;
     note_if(plan.incompatible_present, INCOMPATIBLE, err)?;
     print_hidden(alloc, plan.rows.as_slice(), options.verbosity, err)?;
+    print_list(alloc, APART, Noun::Crate, apart, err)?;
     warn_if(options.dry_run, DRY_RUN, err)?;
-    print_absent(alloc, plan, options, offline, err)
+    print_absent(alloc, plan, options, offline, err)?;
+    print_held_back(alloc, plan, options, err)
 }

@@ -13,11 +13,14 @@ use crate::upgrade_output::task::DeliveryTask;
 use edit_base::CargoResult;
 use edit_metadata::Input;
 use edit_report::Output;
-use edit_shown::{MessageFormat, print_annotations, print_diffs, print_markdown, print_messages};
+use edit_shown::{
+    MessageFormat, print_annotations, print_diffs, print_markdown, print_messages, print_numbered,
+};
 use std::alloc::Global;
 use std::io;
 
-/// Prints a plan as JSON, as one table of Markdown, or as annotations, where that is requested.
+/// Prints a plan as JSON, as one table of Markdown, as annotations, or as numbered rows, where that is
+/// requested.
 fn print_as<O: io::Write>(
     alloc: Global,
     task: &DeliveryTask<'_>,
@@ -38,6 +41,9 @@ fn print_as<O: io::Write>(
         }
         MessageFormat::Github => {
             print_annotations(alloc, task.root, inputs, plan.rows.as_slice(), out)
+        }
+        MessageFormat::Numbered => {
+            print_numbered(alloc, task.root, inputs, plan.rows.as_slice(), out)
         }
     }
 }

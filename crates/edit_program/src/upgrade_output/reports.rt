@@ -104,7 +104,10 @@ fn print_table<O: io::Write>(
 {
     match format {
         MessageFormat::Human => print_rows(alloc, rows, input, verbosity, out),
-        MessageFormat::Json | MessageFormat::Markdown | MessageFormat::Github => Ok(()),
+        MessageFormat::Json
+        | MessageFormat::Markdown
+        | MessageFormat::Github
+        | MessageFormat::Numbered => Ok(()),
     }
 }
 

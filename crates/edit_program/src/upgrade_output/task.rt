@@ -2,6 +2,7 @@
 
 use edit_lock::Lock;
 use edit_metadata::{Input, Workspace};
+use edit_policy::CratePolicy;
 use edit_shown::Presentation;
 use edit_upgrade::{Options, UpgradePlan};
 
@@ -10,6 +11,8 @@ use edit_upgrade::{Options, UpgradePlan};
 #[derive(Clone, Copy)]
 pub struct DeliveryTask<'a> {
     pub plan: &'a UpgradePlan,
+    /// The crates that a unified plan leaves in more than one compatible range; empty for other plans.
+    pub apart: &'a [String],
     pub inputs: &'a [Input],
     /// The workspace for which calls follow: without one there are none.
     pub workspace: Option<&'a Workspace>,
@@ -24,4 +27,6 @@ pub struct DeliveryTask<'a> {
     pub lock: Option<&'a Lock>,
     /// Whether calls that are valid for a lock file must not fetch anything.
     pub offline: bool,
+    /// What the policy says of crates.
+    pub crates: &'a [CratePolicy],
 }

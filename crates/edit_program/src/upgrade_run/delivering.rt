@@ -1,17 +1,19 @@
 //! How a plan is printed and written, from the arguments.
-ghost use Rattle.std.specs.Prelude.{◌≡◌, IfErr, IfOk, option_map, string_bytes};
+ghost use Rattle.std.specs.Prelude.{◌≡◌, IfErr, IfOk, map, option_map, string_bytes};
 ghost use Rattle.edit_base.specs.Errors.{IsMemory};
 ghost use Rattle.edit_lock.specs.Views.{lock_view};
 ghost use Rattle.edit_metadata.specs.Workspaces.{workspace_view};
 ghost use Rattle.edit_sources.specs.Configured.{given};
 ghost use Rattle.edit_program.specs.Delivery.{delivery_of};
-ghost use Rattle.edit_program.specs.Upgrading.{IsPathOf, called_workspace, delivery_by, diff_root, has_outputs};
+ghost use Rattle.edit_program.specs.Upgrading.{IsPathOf, called_workspace, delivery_by, diff_root, has_outputs, keeps_lock};
 
 use crate::upgrade_output::DeliveryTask;
+use crate::upgrade_run::revising::RevisedPlan;
 use crate::upgrade_run::upgrade_args::UpgradeArgs;
 use edit_base::CargoResult;
 use edit_lock::Lock;
 use edit_metadata::Workspace;
+use edit_policy::CratePolicy;
 use edit_steps::absolute_path;
 use edit_steps::upgrade_read::Target;
 use edit_upgrade::UpgradePlan;
@@ -45,39 +47,50 @@ fn diff_root<'a>(workspace: Option<&'a Workspace>, current: &'a str) -> &'a str
     }
 }
 
-/// The workspace for which calls of `cargo update` follow: none with `--to-lockfile`, which leaves the lock
-/// file as it is.
-fn called_workspace(to_lockfile: bool, workspace: Option<&Workspace>) -> Option<&Workspace>
-    ensures { option_map (λ w. workspace_view w.now) result
-        ≡ called_workspace to_lockfile (option_map (λ w. workspace_view w.now) workspace.entry) }
+/// Whether the lock file is left as it is: with `--to-lockfile`, and where no row is chosen.
+fn keeps_lock(args: &UpgradeArgs<'_>, plan: &UpgradePlan) -> bool
+    ensures { result ≡ keeps_lock args.now plan.now }
 {
-    if to_lockfile { None } else { workspace }
+    args.to_lockfile || (args.rows.is_some() && plan.outputs.is_empty())
 }
 
-/// How the plan for these manifests is printed and written, from the arguments. `update_calls` is the path
-/// of the file for the calls, which are adapted to the lock file where there is one.
+/// The workspace for which calls of `cargo update` follow: none where the lock file is left as it is.
+fn called_workspace(keeps_lock: bool, workspace: Option<&Workspace>) -> Option<&Workspace>
+    ensures { option_map (λ w. workspace_view w.now) result
+        ≡ called_workspace keeps_lock (option_map (λ w. workspace_view w.now) workspace.entry) }
+{
+    if keeps_lock { None } else { workspace }
+}
+
+/// How the plan for these manifests is printed and written, from the arguments and from what the policy says
+/// of crates. `path` is that of the file for the calls, which are adapted to the lock file where there is
+/// one.
 pub(crate) fn delivery_task<'a>(
     args: &'a UpgradeArgs<'_>,
     current: &'a str,
     target: &'a Target,
-    plan: &'a UpgradePlan,
+    revised: &'a RevisedPlan,
+    crates: &'a [CratePolicy],
     path: Option<&'a str>,
     lock: Option<&'a Lock>,
 ) -> DeliveryTask<'a>
-    ensures { delivery_of result ≡ delivery_by args.entry.now current.now plan.entry.now target.entry.now
-        (given path.entry) (option_map (λ l. lock_view l.now) lock.entry) }
+    ensures { delivery_of result ≡ delivery_by args.entry.now current.now revised.entry.now.plan
+        (map string_bytes revised.entry.now.apart.items) target.entry.now crates.entry.now (given path.entry)
+        (option_map (λ l. lock_view l.now) lock.entry) }
 {
     let workspace = target.workspace.as_ref();
     DeliveryTask {
-        plan,
+        plan: &revised.plan,
+        apart: revised.apart.as_slice(),
         inputs: target.inputs.as_slice(),
-        workspace: called_workspace(args.to_lockfile, workspace),
+        workspace: called_workspace(keeps_lock(args, &revised.plan), workspace),
         options: &args.options,
         root: diff_root(workspace, current),
         presentation: args.presentation,
         update_calls: path,
         lock,
         offline: args.offline,
+        crates,
     }
 }
 

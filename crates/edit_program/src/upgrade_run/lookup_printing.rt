@@ -19,6 +19,7 @@ use crate::upgrade_run::upgrade_args::UpgradeArgs;
 use edit_base::CargoResult;
 use edit_diagnostics::explain_upgrade;
 use edit_report::shell_write_stdout;
+use edit_restricted_index::Restriction;
 use edit_steps::RunResult;
 use edit_steps::upgrade_read::{SharedConfigs, Sources, Target, read_sources};
 use edit_store::Store;
@@ -43,7 +44,14 @@ fn lines_for(
         ⊎ IsPlanCause options.now target.now.inputs.items (lists_for configs.now) no_view e) }
     ensures counted { IfErr result (λ e. number_of e ≢ 3) }
 {
-    let plan = plan_over(alloc, options, target, configs, None, NoIndex {})?;
+    let plan = plan_over(
+        alloc,
+        options,
+        target,
+        configs,
+        Restriction::none(),
+        NoIndex {},
+    )?;
     lookup_lines_text(alloc, &plan.looks)
 }
 

@@ -9,8 +9,8 @@ ghost use Rattle.edit_steps.specs.Faults.{CountsFault};
 ghost use Rattle.edit_steps.specs.Sources.{MayBePlanned};
 ghost use Rattle.edit_store.specs.Store.{OnlyReads, IsCallError};
 ghost use Rattle.edit_program.specs.LockRead.{HasNoLock, IsLockAt, IsLockRead};
-ghost use Rattle.edit_program.specs.Planned.{to_request};
-ghost use Rattle.edit_program.specs.Upgrading.{IsRead};
+ghost use Rattle.edit_program.specs.Planned.{to_manifest_request};
+ghost use Rattle.edit_program.specs.Reading.{IsRead};
 
 use crate::upgrade_run::upgrade_args::UpgradeArgs;
 use edit_base::Error;
@@ -20,8 +20,9 @@ use edit_steps::{RunResult, absolute_path, at_file, at_path};
 use edit_store::Store;
 use std::alloc::Global;
 
-/// The files that an upgrade depends on, and the lock file that its calls must be valid for.
-pub(crate) struct Readings {
+/// The files that an upgrade depends on, without an index, and the lock file that its calls must be valid
+/// for.
+pub(crate) struct ReadFiles {
     pub(crate) sources: Sources,
     pub(crate) lock: Option<Lock>,
 }
@@ -92,14 +93,15 @@ fn read_lock<S: Store>(
     }
 }
 
-/// Reads the given lock file, and then the files that the upgrade depends on. No file changes.
-pub(crate) fn read<S: Store>(
+/// Reads the given lock file, and then the other files that the upgrade depends on, without an index. No file
+/// changes.
+pub(crate) fn read_files<S: Store>(
     alloc: Global,
     args: &UpgradeArgs<'_>,
     current: &str,
     cargo_home: Option<&str>,
     files: &mut S,
-) -> RunResult<Readings>
+) -> RunResult<ReadFiles>
     ensures store { OnlyReads (S.view files.old) (S.view files.new) }
     ensures read { IfOk result (λ r. (S.view files.old).tells ≡ true
         → IsRead args.now current.now (given cargo_home.entry) (S.view files.old).file_at r.sources) }
@@ -107,14 +109,20 @@ pub(crate) fn read<S: Store>(
         → IsLockRead args.now.to_lockfile (S.view files.old).file_at current.now (given args.now.lock_file)
         (option_map lock_view r.lock)) }
     ensures planned { IfOk result (λ r. MayBePlanned r.sources) }
-    ensures error { IfErr result (λ r. IsReadCause current.now (given cargo_home.entry) (to_request args.now)
-        (S.view files.old) (S.view files.new) r.error
+    ensures error { IfErr result (λ r. IsReadCause current.now (given cargo_home.entry)
+        (to_manifest_request args.now) (S.view files.old) (S.view files.new) r.error
         ⊎ ((S.view files.old).tells ≡ true
         → HasNoLock args.now.to_lockfile (S.view files.old).file_at current.now (given args.now.lock_file)
         r.error)) }
     ensures counted { IfErr result (λ r. CountsFault (S.view files.old) (S.view files.new) r.error) }
 {
     let lock = read_lock(alloc, args.lock_file, args.to_lockfile, current, files)?;
-    let sources = read_sources(alloc, &args.to_request(), current, cargo_home, files)?;
-    Ok(Readings { sources, lock })
+    let sources = read_sources(
+        alloc,
+        &args.to_manifest_request(),
+        current,
+        cargo_home,
+        files,
+    )?;
+    Ok(ReadFiles { sources, lock })
 }

@@ -1,8 +1,10 @@
 //! The arguments of `upgrade`.
 ghost use Rattle.std.specs.Prelude.{◌≡◌};
 ghost use Rattle.edit_steps.specs.RequestView.{request_view};
-ghost use Rattle.edit_program.specs.Planned.{to_request, to_lookup_request};
+ghost use Rattle.edit_program.specs.Planned.{to_request, to_manifest_request};
 
+use edit_choice::RowChoice;
+use edit_policy::GivenChoices;
 use edit_shown::Presentation;
 use edit_sources::PublishedBefore;
 use edit_steps::upgrade_read::{RustChoice, SourceRequest};
@@ -25,6 +27,10 @@ pub struct UpgradeArgs<'a> {
     pub default_config: Option<&'a str>,
     pub rust: RustChoice,
     pub options: Options,
+    /// Which of the choices in `options` are given; the others are defaults.
+    pub given: GivenChoices,
+    /// Whether the policy of the root manifest is ignored.
+    pub no_policy: bool,
     pub presentation: Presentation,
     /// The file to which the calls of `cargo update` are written.
     pub update_calls: Option<&'a str>,
@@ -37,6 +43,12 @@ pub struct UpgradeArgs<'a> {
     pub to_lockfile: bool,
     /// The time by which versions have to be published, where there is one.
     pub published_before: Option<PublishedBefore>,
+    /// The time from which the age that the policy sets counts back.
+    pub time: Option<&'a str>,
+    /// Raise differing requirements of one crate in one compatible range to the highest of them.
+    pub unify: bool,
+    /// The rows that change, of those that would.
+    pub rows: Option<RowChoice<'a>>,
 }
 
 impl<'a> UpgradeArgs<'a> {
@@ -57,15 +69,24 @@ impl<'a> UpgradeArgs<'a> {
         }
     }
 
-    /// The files to read where only the lookups are requested: no index.
-    pub(crate) fn to_lookup_request(&self) -> SourceRequest<'a>
-        ensures { request_view result ≡ to_lookup_request self.now }
+    /// The files to read before the policy is known, which may bound the index: no index.
+    pub(crate) fn to_manifest_request(&self) -> SourceRequest<'a>
+        ensures { request_view result ≡ to_manifest_request self.now }
     {
         SourceRequest {
             index_file: None,
             index_dir: None,
-            writes: false,
             ..self.to_request()
+        }
+    }
+
+    /// The files to read where only the lookups are requested: no index.
+    pub(crate) fn to_lookup_request(&self) -> SourceRequest<'a>
+        ensures { request_view result ≡ to_manifest_request self.now }
+    {
+        SourceRequest {
+            writes: false,
+            ..self.to_manifest_request()
         }
     }
 }

@@ -39,5 +39,6 @@ pub(crate) fn change_name(change: Option<Change>) -> Option<&'static str>
         Some(Change::Explicit) => Some("explicit"),
         Some(Change::Latest) => Some("latest"),
         Some(Change::Compatible) => Some("compatible"),
+        Some(Change::Unified) => Some("unified"),
     }
 }

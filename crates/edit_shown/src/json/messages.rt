@@ -1,8 +1,9 @@
 //! The messages of `upgrade` and `set-version`.
 ghost use Rattle.std.specs.Prelude.{◌≡◌, IfErr, IfOk, string_bytes};
 ghost use Rattle.edit_base.specs.Errors.{IsMemory};
-ghost use Rattle.edit_shown.specs.JsonMessages.{change_members, file_members, message_text, row_members, summary_members, warning_members};
+ghost use Rattle.edit_shown.specs.JsonMessages.{change_members, file_members, held_back_members, message_text, row_members, summary_members, warning_members};
 
+use crate::held_back::HeldBack;
 use crate::json::fields::{Field, Member};
 use crate::json::message_encoding::message;
 use crate::json::message_names::{borrow_optional_text, change_name, reason_name};
@@ -108,6 +109,32 @@ pub fn file_message(alloc: Global, manifest: &str, written: bool) -> CargoResult
         Member {
             key: "written",
             field: Field::Truth(written),
+        },
+    ];
+    message(alloc, &members)
+}
+
+/// The message of what was held back for the age of versions.
+pub fn held_back_message(alloc: Global, held: &HeldBack) -> CargoResult<String>
+    ensures text { IfOk result (λ s. string_bytes s ≡ message_text (held_back_members held.now)) }
+    ensures error { IfErr result IsMemory }
+{
+    let members = [
+        Member {
+            key: "reason",
+            field: Field::Text("upgrade-held-back"),
+        },
+        Member {
+            key: "younger",
+            field: Field::Texts(held.younger.as_slice()),
+        },
+        Member {
+            key: "undated",
+            field: Field::Texts(held.undated.as_slice()),
+        },
+        Member {
+            key: "registries_without_times",
+            field: Field::Texts(held.registries.as_slice()),
         },
     ];
     message(alloc, &members)

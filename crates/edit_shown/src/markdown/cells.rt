@@ -57,6 +57,7 @@ pub(crate) fn change_text(change: Option<Change>) -> &'static str
         Some(Change::Explicit) => "explicit",
         Some(Change::Latest) => "latest",
         Some(Change::Compatible) => "compatible",
+        Some(Change::Unified) => "unified",
     }
 }
 

@@ -1,6 +1,6 @@
 //! An index in a folder with a subfolder for each registry.
-ghost use Rattle.std.specs.Prelude.{◌≡◌, None, Ok, IfOk, string_bytes};
-ghost use Rattle.edit_sources.specs.DirIndex.{DirGives, bound_of, dir_view, files_of, folder_of, store_of};
+ghost use Rattle.std.specs.Prelude.{◌≡◌, None, Ok, IfOk, IfSome, string_bytes};
+ghost use Rattle.edit_sources.specs.DirIndex.{DirGives, HasWithheld, bound_of, dir_view, files_of, folder_of, store_of};
 ghost use Rattle.edit_sources.specs.Index.{HasLookupCause, SameOutcomes, answer_of};
 ghost use Rattle.edit_sources.specs.Published.{published_view};
 ghost use Rattle.edit_store.specs.Store.{OnlyReads};
@@ -58,6 +58,8 @@ impl<S: Store> Index for DirIndex<S> {
             registry.now name.now (Ok (answer_of k))) }
         ensures cause { HasLookupCause (dir_view (folder_of self.old) (files_of S.view self.old))
             (dir_view (folder_of self.new) (files_of S.view self.new)) registry.now name.now result }
+        ensures withheld { IfOk result (λ k. IfSome k (λ k. HasWithheld (bound_of self.old)
+            (folder_of self.old) (S.view (store_of self.old)) registry.now name.now k.withheld)) }
         // no file changes
         ensures reads { OnlyReads (S.view (store_of self.old)) (S.view (store_of self.new)) }
     {
@@ -65,13 +67,14 @@ impl<S: Store> Index for DirIndex<S> {
             Ok(path) => path,
             Err(error) => return Err(error),
         };
-        let bytes = match read_published(&mut self.store, alloc, path.as_str(), self.bound) {
-            Ok(Some(bytes)) => bytes,
+        let text = match read_published(&mut self.store, alloc, path.as_str(), self.bound) {
+            Ok(Some(text)) => text,
             Ok(None) => return Ok(None),
             Err(error) => return Err(error),
         };
-        match read_lines(alloc, &bytes) {
-            Ok(versions) => Ok(Some(IndexKrate { versions })),
+        let withheld = text.withheld;
+        match read_lines(alloc, &text.bytes) {
+            Ok(versions) => Ok(Some(IndexKrate { versions, withheld })),
             Err(error) => Err(error),
         }
     }

@@ -59,7 +59,7 @@ fn read_file<S: Store>(
 /// The index to query: a given index file, else a given folder, by its absolute, normalized path, else the
 /// index in files. An index file is read without the versions that were not published by the bound, where
 /// there is one; nothing is read from a folder yet.
-pub(crate) fn read_index<S: Store>(
+pub fn read_index<S: Store>(
     alloc: Global,
     file: Option<&str>,
     dir: Option<&str>,

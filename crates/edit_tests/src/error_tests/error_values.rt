@@ -28,6 +28,7 @@ fn error_without_fields(number: u32) -> Option<Error> {
         46 => Some(Error::from(AllocError)),
         48 => Some(Error::from(io::Error::from(ErrorKind::PermissionDenied))),
         49 => Some(Error::EditRefused),
+        50 => Some(Error::Policy),
         _ => None,
     }
 }
@@ -186,5 +187,5 @@ pub(super) fn error_of_number(rt: &impl Abort, alloc: Global, number: u32, parts
         _ if parts.is_empty() => error_without_fields(number),
         _ => error_with_texts(rt, alloc, number, parts),
     };
-    made.expect(rt, "a number from 1 to 49")
+    made.expect(rt, "a number from 1 to 50")
 }

@@ -38,6 +38,21 @@ fn retains_published_lines(rt: HostRuntime) {
     calls(&rt, rt.alloc(), &mut cache, OVER_DATED);
 }
 
+/// The calls over the same lines with a bound: a crate of which nothing is left has no entries.
+const OVER_BOUND: &str = "\
+at the bound|krate|equal||equal 1.0.0.
+after the bound|krate|after||
+no time|krate|absent||
+another crate|krate|other||none";
+
+#[test]
+fn finds_crates_without_published_lines(rt: HostRuntime) {
+    let bound = PublishedBefore::parse("2025-05-01T12:00:00Z");
+    let index = unwrap_ok(&rt, FileIndex::with_bound(rt.alloc(), DATED, bound));
+    let mut cache = IndexCache::new(rt.alloc(), index);
+    calls(&rt, rt.alloc(), &mut cache, OVER_BOUND);
+}
+
 /// Paths with lines: of one the first is not published by the bound, and of another the last is malformed.
 const FILES: &str = "\
 /idx/1/a|{\"name\":\"a\",\"vers\":\"1.1.0\"}@\

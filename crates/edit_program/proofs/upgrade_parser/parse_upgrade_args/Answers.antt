@@ -31,7 +31,7 @@ pub returns-in_err-published_before-clause-error : goal.returns-in_err-published
 returns-in_err-published_before-clause-error c =
     err_same c.from_residual-in_err-published_before.result c.in_err-published_before.field-0.0 _
     c.from_residual-in_err-published_before.ensures.1 (λ other.
-    inr (inr (inr (inr (inr (inr c.in_err-published_before.ensures.error))))))
+    inr (inr (inr (inr (inr (inr (inl c.in_err-published_before.ensures.error)))))))
 
 pub returns-in_err-to_lockfile-clause-error : goal.returns-in_err-to_lockfile-clause-error
 returns-in_err-to_lockfile-clause-error c =
@@ -42,6 +42,12 @@ returns-in_err-to_lockfile-clause-error c =
       status = c.in_ok-options.ensures.options.incompatible;
       fault = c.in_err-to_lockfile.ensures.error;
     })))))))
+
+pub returns-in_err-rows-clause-error : goal.returns-in_err-rows-clause-error
+returns-in_err-rows-clause-error c =
+    err_same c.from_residual-in_err-rows.result c.in_err-rows.field-0.0 _
+    c.from_residual-in_err-rows.ensures.1 (λ other.
+    inr (inr (inr (inr (inr (inr (inr (c.in_err-rows.ensures.error other))))))))
 
 pub returns-clause-asks : goal.returns-clause-asks
 returns-clause-asks c =
@@ -63,6 +69,8 @@ returns-clause-asks c =
       options = c.in_ok-options.ensures.options;
       level = c.in_ok-level.ensures.ok
           ∙ ap (λ (l : Option Level). Some l) (sym c.in_ok-options.ensures.level);
+      choices = c.given_choices.ensures;
+      no_policy = search rules;
       presentation = c.in_ok-presentation.ensures.ok;
       calls = option_text_is c.args.matches.now (codes "update-calls") c.get_str-8.result _ refl c.get_str-8.ensures;
       lock = option_text_is c.args.matches.now (codes "lock-file") c.get_str-9.result _ refl c.get_str-9.ensures;
@@ -70,4 +78,7 @@ returns-clause-asks c =
       to_lockfile = c.in_ok-to_lockfile.ensures.given;
       usable = c.in_ok-to_lockfile.ensures.usable;
       bound = c.in_ok-published_before.ensures.ok;
+      time = option_text_is c.args.matches.now (codes "now") c.get_str-10.result _ refl c.get_str-10.ensures;
+      unify = search rules;
+      choice = c.in_ok-rows.ensures.ok;
     }

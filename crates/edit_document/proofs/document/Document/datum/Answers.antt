@@ -1,6 +1,7 @@
 use Rattle.std.proofs.Common.{ℕ, List, refl, ap, ◌∙◌}
 use Rattle.edit_tree.specs.declared.nodes.Content.TheVariants as content
 use Rattle.edit_document.specs.declared.document.Datum.TheVariants as seen
+use Rattle.edit_syntax.specs.Spans.{bytes_at}
 use Rattle.edit_tree.specs.Nodes.{bytes_of}
 use Rattle.edit_document.proofs.ShownForms.{shown_bytes}
 use Rattle.edit_document.proofs.Views.{opened, within, found}
@@ -52,7 +53,9 @@ returns-in-Integer c =
     (opened c.self.inside c.args.self.now c.self.invariant c.self.view_is) c.requires c.index-node.ensures in
     shows c.args.self.now c.self.inside.nodes.items
     (opened c.self.inside c.args.self.now c.self.invariant c.self.view_is).models c.args.number
-    c.index-node.result.now (content.Integer c.in-Integer.field-0) seen.Integer f c.in-Integer.is tt
+    c.index-node.result.now (content.Integer c.in-Integer.span) (seen.Integer c.span_text.result) f c.in-Integer.is
+    (c.span_text.ensures ∙ ap (λ (b : List ℕ). bytes_at b c.in-Integer.span)
+    (c.as_str-in-Integer.ensures.value ∙ shown_bytes c.self.inside c.args.self.now c.self.view_is))
 
 pub returns-in-Float : goal.returns-in-Float
 returns-in-Float c =

@@ -1,8 +1,7 @@
-use Rattle.std.proofs.Common.{map, option_map}
 use Rattle.std.specs.Prelude.{IfErr, IfOk, ◌⊎◌}
 use Rattle.edit_base.specs.Errors.{IsMemory}
-use Rattle.edit_lock.specs.Views.{locked_package_view}
-use Rattle.edit_locked_index.specs.LockedIndex.{locked_view}
+use Rattle.edit_restricted_index.specs.RestrictedIndex.{restricted_view}
+use Rattle.edit_restricted_index.specs.VersionTests.{test_of}
 use Rattle.edit_sources.specs.Index.{IndexView}
 use Rattle.edit_steps.specs.Shared.{lists_for}
 use Rattle.edit_program.specs.Planned.{IsPlanCause, IsPlanned}
@@ -11,21 +10,21 @@ use Rattle.edit_program.proofs.upgrade_run.plan.plan_for.Goals as goal
 
 pub returns-in-Files-clause-planned : goal.returns-in-Files-clause-planned
 returns-in-Files-clause-planned g c =
-    let locked = option_map (λ ps. map locked_package_view ps.now) c.args.locked in
+    let test = test_of c.args.restriction in
     over_files g.T.Store.view c.with_bound.result c.args.index_files c.args.args.now.published_before
     c.args.index
     (λ (view : IndexView). IfOk c.plan_over.result (IsPlanned c.args.args.now.options
-    c.args.target.now.inputs.items (lists_for c.args.configs.now) (locked_view locked view)))
+    c.args.target.now.inputs.items (lists_for c.args.configs.now) (restricted_view test view)))
     c.in-Files.is c.with_bound.ensures.store c.with_bound.ensures.bound c.plan_over.ensures.planned
 
 pub returns-in-Files-clause-error : goal.returns-in-Files-clause-error
 returns-in-Files-clause-error g c =
-    let locked = option_map (λ ps. map locked_package_view ps.now) c.args.locked in
+    let test = test_of c.args.restriction in
     over_files g.T.Store.view c.with_bound.result c.args.index_files c.args.args.now.published_before
     c.args.index
     (λ (view : IndexView). IfErr c.plan_over.result (λ e. IsMemory e
     ⊎ IsPlanCause c.args.args.now.options c.args.target.now.inputs.items (lists_for c.args.configs.now)
-    (locked_view locked view) e))
+    (restricted_view test view) e))
     c.in-Files.is c.with_bound.ensures.store c.with_bound.ensures.bound c.plan_over.ensures.error
 
 pub returns-in-Files-clause-counted : goal.returns-in-Files-clause-counted
@@ -40,22 +39,22 @@ returns-in-Lines-clause-counted g c =
 
 pub returns-in-Folder-clause-planned : goal.returns-in-Folder-clause-planned
 returns-in-Folder-clause-planned g c =
-    let locked = option_map (λ ps. map locked_package_view ps.now) c.args.locked in
+    let test = test_of c.args.restriction in
     over_folder g.T.Store.view c.with_bound-in-Folder.result c.args.index_files
     c.args.args.now.published_before c.args.index c.in-Folder.folder
     (λ (view : IndexView). IfOk c.plan_over-in-Folder.result (IsPlanned c.args.args.now.options
-    c.args.target.now.inputs.items (lists_for c.args.configs.now) (locked_view locked view)))
+    c.args.target.now.inputs.items (lists_for c.args.configs.now) (restricted_view test view)))
     c.in-Folder.is c.with_bound-in-Folder.ensures.store c.with_bound-in-Folder.ensures.bound
     c.with_bound-in-Folder.ensures.folder c.plan_over-in-Folder.ensures.planned
 
 pub returns-in-Folder-clause-error : goal.returns-in-Folder-clause-error
 returns-in-Folder-clause-error g c =
-    let locked = option_map (λ ps. map locked_package_view ps.now) c.args.locked in
+    let test = test_of c.args.restriction in
     over_folder g.T.Store.view c.with_bound-in-Folder.result c.args.index_files
     c.args.args.now.published_before c.args.index c.in-Folder.folder
     (λ (view : IndexView). IfErr c.plan_over-in-Folder.result (λ e. IsMemory e
     ⊎ IsPlanCause c.args.args.now.options c.args.target.now.inputs.items (lists_for c.args.configs.now)
-    (locked_view locked view) e))
+    (restricted_view test view) e))
     c.in-Folder.is c.with_bound-in-Folder.ensures.store c.with_bound-in-Folder.ensures.bound
     c.with_bound-in-Folder.ensures.folder c.plan_over-in-Folder.ensures.error
 

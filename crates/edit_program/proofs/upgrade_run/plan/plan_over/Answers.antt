@@ -1,11 +1,11 @@
-use Rattle.std.proofs.Common.{◌≡◌, List, ℕ, map, option_map, subst, sym}
-use Rattle.std.proofs.lemmas.Result.{IfOk-weaker}
+use Rattle.std.proofs.Common.{◌≡◌, List, ℕ, subst, sym}
+use Rattle.std.proofs.lemmas.Result.{IfOk-weaker, on_ok_weaker}
 use Rattle.std.specs.Global.{Vec}
 use Rattle.std.specs.Prelude.{◌⊎◌, IfErr, IfOk}
 use Rattle.edit_base.specs.Errors.{IsMemory}
-use Rattle.edit_lock.specs.Views.{locked_package_view}
-use Rattle.edit_locked_index.proofs.RestrictedLemmas.{over_locked}
-use Rattle.edit_locked_index.specs.LockedIndex.{view_of}
+use Rattle.edit_restricted_index.proofs.RestrictedLemmas.{over_restricted}
+use Rattle.edit_restricted_index.specs.RestrictedIndex.{view_of}
+use Rattle.edit_restricted_index.specs.VersionTests.{test_of}
 use Rattle.edit_metadata.specs.declared.input.Input.{Input}
 use Rattle.edit_sources.specs.Index.{IndexView}
 use Rattle.edit_sources.specs.declared.config.Config.{Config}
@@ -13,17 +13,13 @@ use Rattle.edit_tree.specs.DocumentViews.{DocumentViews}
 use Rattle.edit_steps.specs.Shared.{lists_for}
 use Rattle.edit_steps.specs.Sources.{AreDocuments}
 use Rattle.edit_upgrade.specs.ConfigLists.{AreIndices, chosen_lists}
+use Rattle.edit_upgrade.specs.Revisions.{AreUtf8}
 use Rattle.edit_program.specs.Planned.{IsPlanCause, IsPlanned}
 use Rattle.edit_program.proofs.CountLemmas.{shared_count}
-use Rattle.edit_program.proofs.IndexFaults.{locked_fault}
+use Rattle.edit_program.proofs.IndexFaults.{restricted_fault}
 use Rattle.edit_program.proofs.PlanLemmas.{both_causes, planned, shared_refused}
+use Rattle.edit_program.proofs.RevisionLemmas.{documents_of, utf8_of}
 use Rattle.edit_program.proofs.upgrade_run.plan.plan_over.Goals as goal
-
--- documents of inputs, as the slices of both have them
-documents_of : (all : List DocumentViews) (inputs : List Input) (docs : List DocumentViews) (is : List Input) → docs ≡ all
-    → is ≡ inputs → AreDocuments all inputs → AreDocuments docs is
-documents_of all inputs docs is one two h =
-    subst (AreDocuments docs) (sym two) (subst (λ (ds : List DocumentViews). AreDocuments ds inputs) (sym one) h)
 
 pub plan_shared-requires-clause-documents : goal.plan_shared-requires-clause-documents
 plan_shared-requires-clause-documents g c =
@@ -41,10 +37,9 @@ returns-clause-planned g c =
     let is = c.deref.result.now in
     let view = view_of g.I.Index.view c.in_ok-index.index in
     let r = c.plan_shared.result in
-    over_locked g.I.Index.view c.in_ok-index.index c.args.index
-    (option_map (λ ps. map locked_package_view ps.now) c.args.locked)
+    over_restricted g.I.Index.view c.in_ok-index.index c.args.index (test_of c.args.restriction)
     (λ (v : IndexView). IfOk r (IsPlanned o c.args.target.now.inputs.items (lists_for c.args.configs.now) v))
-    c.in_ok-index.ensures.index c.in_ok-index.ensures.tests
+    c.in_ok-index.ensures.index c.in_ok-index.ensures.test
     (subst (λ (xs : List Input). IfOk r (IsPlanned o xs (lists_for c.args.configs.now) view))
     c.deref.ensures.value
     (subst (λ (ls : List (Vec Config)).
@@ -64,11 +59,10 @@ returns-clause-error g c =
     let r = c.plan_shared.result in
     let documents = documents_of c.args.target.now.documents.items c.args.target.now.inputs.items docs is
     c.deref-2.ensures.value c.deref.ensures.value c.requires.documents in
-    over_locked g.I.Index.view c.in_ok-index.index c.args.index
-    (option_map (λ ps. map locked_package_view ps.now) c.args.locked)
+    over_restricted g.I.Index.view c.in_ok-index.index c.args.index (test_of c.args.restriction)
     (λ (v : IndexView). IfErr r (λ e. IsMemory e
     ⊎ IsPlanCause o c.args.target.now.inputs.items (lists_for c.args.configs.now) v e))
-    c.in_ok-index.ensures.index c.in_ok-index.ensures.tests
+    c.in_ok-index.ensures.index c.in_ok-index.ensures.test
     (subst (λ (xs : List Input). IfErr r
     (λ e. IsMemory e ⊎ IsPlanCause o xs (lists_for c.args.configs.now) view e)) c.deref.ensures.value
     (subst (λ (ls : List (Vec Config)). IfErr r
@@ -88,8 +82,16 @@ returns-clause-counted g c =
     let docs = c.deref-2.result.now in
     let documents = documents_of c.args.target.now.documents.items c.args.target.now.inputs.items docs is
     c.deref-2.ensures.value c.deref.ensures.value c.requires.documents in
-    both_causes c.plan_shared.result _ _ _ (λ e given read. locked_fault g.I.Index.view c.in_ok-index.index
-    c.args.index e c.in_ok-index.ensures.index (shared_count (view_of g.I.Index.view) c.in_ok-index.index
-    c.args.options.now is (chosen_lists c.deref-3.result.now c.deref-4.result.now) docs c.new-cache.result
-    c.plan_shared.new.index e c.new-cache.ensures.index documents given read))
+    both_causes c.plan_shared.result _ _ _ (λ e given read.
+    restricted_fault g.I.Index.view c.in_ok-index.index c.args.index e c.in_ok-index.ensures.index
+    (shared_count (view_of g.I.Index.view) c.in_ok-index.index c.args.options.now is
+    (chosen_lists c.deref-3.result.now c.deref-4.result.now) docs c.new-cache.result c.plan_shared.new.index e
+    c.new-cache.ensures.index documents given read))
     c.plan_shared.ensures.given c.plan_shared.ensures.read
+
+pub returns-clause-utf8 : goal.returns-clause-utf8
+returns-clause-utf8 g c =
+    on_ok_weaker c.plan_shared.result
+    (λ (h : AreUtf8 c.deref.result.now c.deref-2.result.now). utf8_of c.deref-2.result.now c.deref.result.now
+    c.args.target.now.documents.items c.args.target.now.inputs.items (sym c.deref-2.ensures.value)
+    (sym c.deref.ensures.value) h) c.plan_shared.ensures.utf8

@@ -1,0 +1,3 @@
+pub mod ChoiceLemmas
+pub mod PartLemmas
+pub mod ParsingLemmas

@@ -1,0 +1,6 @@
+mod CrateLemmas
+mod DayLemmas
+mod FaultLemmas
+mod FormLemmas
+mod ItemLemmas
+mod PolicyLemmas

@@ -1,0 +1,9 @@
+pub mod Errors
+pub mod Faults
+pub mod Holds
+pub mod Keys
+pub mod Manifests
+pub mod Merged
+pub mod Policies
+pub mod PolicyTables
+pub mod Values

@@ -1,0 +1,148 @@
+-- The policy that an upgrade follows, from its steps.
+use Rattle.std.proofs.Common.{◌≡◌, ◌∙◌, ℕ, Bor, List, [], ◌∷◌, None, Option, ap, get_or, inl, inr, length, map, subst, sym, true}
+use Rattle.std.specs.Prelude.{◌⊎◌, option_copied, option_map, slice_get}
+use Rattle.std.proofs.lemmas.List.{length-map}
+use Rattle.edit_base.specs.Errors.{IsMemory, number_of}
+use Rattle.edit_base.specs.declared.errors.DeviceCall.TheVariants as call
+use Rattle.edit_base.specs.declared.errors.Error.{Error}
+use Rattle.edit_base.specs.declared.errors.Error.TheVariants as error
+use Rattle.edit_metadata.specs.Inputs.{HaveOwnPaths}
+use Rattle.edit_metadata.specs.Metadata.{WorkspaceModel}
+use Rattle.edit_metadata.specs.Roots.{IsRoot}
+use Rattle.edit_metadata.specs.RustInputs.{all_for_rust, for_rust}
+use Rattle.edit_metadata.specs.Workspaces.{workspace_view}
+use Rattle.edit_metadata.specs.declared.input.Input.{Input}
+use Rattle.edit_metadata.specs.declared.workspace.Workspace.{Workspace}
+use Rattle.edit_policy.specs.Errors.{error_of}
+use Rattle.edit_policy.specs.Manifests.{IsManifestFault}
+use Rattle.edit_policy.specs.declared.error.PolicyError.{PolicyError}
+use Rattle.edit_policy.specs.declared.error.PolicyError.TheVariants.{Failed, Unexpected}
+use Rattle.edit_sources.specs.Configured.{given}
+use Rattle.edit_steps.proofs.ReadLemmas.{before, refused_on}
+use Rattle.edit_steps.specs.Causes.{HasNoIndex, IsReadCause}
+use Rattle.edit_steps.specs.Shared.{HasLists}
+use Rattle.edit_steps.specs.Sources.{AreDocuments, MayBePlanned}
+use Rattle.edit_steps.specs.declared.upgrade_read.index.IndexSource.{IndexSource}
+use Rattle.edit_steps.specs.declared.upgrade_read.sources.Sources.{Sources}
+use Rattle.edit_steps.specs.declared.upgrade_read.target.Target.{Target}
+use Rattle.edit_store.specs.Store.{IsCallError, OnlyReads, StoreView}
+use Rattle.edit_tree.specs.DocumentViews.{DocumentViews}
+use Rattle.edit_version.specs.declared.rust_version.RustVersion.{RustVersion}
+use Rattle.edit_program.proofs.CountLemmas.{error_counts, memory_counts}
+use Rattle.edit_program.proofs.UpgradeLemmas.{same_workspace}
+use Rattle.edit_program.specs.Followed.{AreForRust, AreOverIndex, HasBadPolicy, HasPolicyFault, HasRoot, IsParsedFrom, IsUnfollowed, with_index}
+use Rattle.edit_program.specs.LockRead.{HasNoLock}
+use Rattle.edit_program.specs.Planned.{to_manifest_request}
+use Rattle.edit_program.specs.Reading.{IsRead}
+use Rattle.edit_program.specs.declared.upgrade_run.following.Readings.{Readings}
+use Rattle.edit_program.specs.declared.upgrade_run.upgrade_args.UpgradeArgs.{UpgradeArgs}
+
+-- the manifest in the root, where the workspace and the inputs are borrowed
+pub root_of : (target : Target) (lent : Option (Bor Workspace)) (inputs : List Input) (root : Option Input)
+    → option_copied lent ≡ target.workspace → inputs ≡ target.inputs.items
+    → IsRoot (option_map (λ w. workspace_view w.now) lent) inputs root → HasRoot target root
+root_of target lent inputs root is same found =
+    subst (λ (xs : List Input). IsRoot (option_map workspace_view target.workspace) xs root) same
+    (subst (λ (w : Option WorkspaceModel). IsRoot w inputs root) (same_workspace lent target.workspace is)
+    found)
+
+-- the first document is that of the first manifest, where all documents are those of manifests
+first_parsed : (documents : List DocumentViews) (inputs : List Input) → AreDocuments documents inputs
+    → IsParsedFrom (slice_get inputs 0) (slice_get documents 0)
+first_parsed [] [] are = tt
+first_parsed [] (input ∷ inputs) are = tt
+first_parsed (document ∷ documents) [] are = tt
+first_parsed (document ∷ documents) (input ∷ inputs) (inl none) = cc none
+first_parsed (document ∷ documents) (input ∷ inputs) (inr same) = ap (λ bytes. get_or bytes 0 []) same
+
+-- without metadata, the first document is that of the manifest in the root
+pub root_parsed : (target : Target) (documents : List DocumentViews) (first : Option DocumentViews)
+    (root : Option Input) → target.workspace ≡ None → documents ≡ target.documents.items
+    → first ≡ slice_get documents 0 → AreDocuments target.documents.items target.inputs.items
+    → HasRoot target root → IsParsedFrom root first
+root_parsed target documents first root single all head are is =
+    let found : root ≡ slice_get target.inputs.items 0
+    = subst (λ w. IsRoot (option_map workspace_view w) target.inputs.items root) single is in
+    let begins : first ≡ slice_get target.documents.items 0 = head ∙ ap (λ ds. slice_get ds 0) all in
+    subst (λ document. IsParsedFrom root document) (sym begins)
+    (subst (λ input. IsParsedFrom input (slice_get target.documents.items 0)) (sym found)
+    (first_parsed target.documents.items target.inputs.items are))
+
+-- an error of a policy is not the device's
+pub fault_counts : {P : Type 0} (bytes : List ℕ) (own : PolicyError) (e : Error) → IsManifestFault bytes own
+    → e ≡ error_of own → number_of e ≡ 3 → P
+fault_counts bytes (Unexpected place expected) e h is = error_counts e error.Policy is (λ n. cc n)
+fault_counts bytes (Failed cause) e h is = memory_counts e (subst IsMemory (sym is) h)
+
+-- documents of inputs are those of others with the same bytes
+documents_for : (ds : List DocumentViews) (old new : List Input)
+    → map (λ (i : Input). i.bytes.items) new ≡ map (λ (i : Input). i.bytes.items) old → AreDocuments ds old
+    → AreDocuments ds new
+documents_for ds old new same (inl none) = inl none
+documents_for ds old new same (inr are) = inr (are ∙ sym same)
+
+-- files with inputs for a Rust version may be planned where those that were read may be
+pub may_be_planned : (version : RustVersion) (own s : Sources) → AreForRust version own s
+    → (HaveOwnPaths own.target.inputs.items → HaveOwnPaths s.target.inputs.items)
+    → map (λ (i : Input). i.bytes.items) s.target.inputs.items
+    ≡ map (λ (i : Input). i.bytes.items) own.target.inputs.items
+    → MayBePlanned own → MayBePlanned s
+may_be_planned version own s are paths bytes may =
+    let old = own.target.inputs.items in
+    let new = s.target.inputs.items in
+    let each : length own.configs.which.items ≡ length new
+    = may.each ∙ sym (ap (λ (xs : List Input). length xs) are.inputs ∙ length-map old (for_rust version)) in
+    record {
+      paths = paths may.paths;
+      each = ap (λ configs. length configs.which.items) are.configs ∙ each;
+      lists = subst HasLists (sym are.configs) may.lists;
+      documents = subst (λ documents. AreDocuments documents.items new) (sym are.documents)
+          (documents_for own.target.documents.items old new bytes may.documents);
+    }
+
+-- an invalid policy cannot be followed
+pub unfollowed : (args : UpgradeArgs) (target : Target) (e : Error)
+    → IsMemory e ⊎ HasPolicyFault args.no_policy target e → IsMemory e ⊎ IsUnfollowed args target e
+unfollowed args target e (inl memory) = inl memory
+unfollowed args target e (inr fault) = inr (inl fault)
+
+-- the policy cannot be followed, or memory ran out
+pub policy_refused : (args : UpgradeArgs) (current : List ℕ) (home : Option (List ℕ)) (old new : StoreView)
+    (s : Sources) (e : Error) → (old.tells ≡ true → IsRead args current home old.file_at s)
+    → IsMemory e ⊎ IsUnfollowed args s.target e
+    → (IsReadCause current home (to_manifest_request args) old new e
+    ⊎ (old.tells ≡ true → HasNoLock args.to_lockfile old.file_at current (given args.lock_file) e))
+    ⊎ (old.tells ≡ true → HasBadPolicy args current home old.file_at e
+    ⊎ HasNoIndex old.file_at current (given args.index_file) e)
+policy_refused args current home old new s e read (inl memory) = inl (inl (inl (inl (inl memory))))
+policy_refused args current home old new s e read (inr fault) =
+    inr (λ t. inl (record { sources = s; read = read t; fault = fault }))
+
+-- files may be planned over another index
+pub planned_over : (s t : Sources) (index : IndexSource) → t ≡ with_index index s → MayBePlanned s
+    → MayBePlanned t
+planned_over s t index is may =
+    subst MayBePlanned (sym is)
+    (record { paths = may.paths; each = may.each; lists = may.lists; documents = may.documents })
+
+-- the index cannot be read
+pub index_refused : (args : UpgradeArgs) (current : List ℕ) (home : Option (List ℕ))
+    (old mid new : StoreView) (e : Error) → OnlyReads old mid
+    → IsCallError call.Read mid new e
+    ⊎ (mid.tells ≡ true → HasNoIndex mid.file_at current (given args.index_file) e)
+    → (IsReadCause current home (to_manifest_request args) old new e
+    ⊎ (old.tells ≡ true → HasNoLock args.to_lockfile old.file_at current (given args.lock_file) e))
+    ⊎ (old.tells ≡ true → HasBadPolicy args current home old.file_at e
+    ⊎ HasNoIndex old.file_at current (given args.index_file) e)
+index_refused args current home old mid new e reads (inl refused) =
+    inl (inl (inl (inr (refused_on call.Read old mid new e reads refused))))
+index_refused args current home old mid new e reads (inr wrong) =
+    inr (λ t. inr
+    (before (λ files. HasNoIndex files current (given args.index_file) e) old mid reads wrong t))
+
+-- readings over an index that was read behind reads
+pub over_before : (args : UpgradeArgs) (current : List ℕ) (old mid : StoreView) (followed r : Readings)
+    → OnlyReads old mid → (mid.tells ≡ true → AreOverIndex args current mid.file_at followed r)
+    → old.tells ≡ true → AreOverIndex args current old.file_at followed r
+over_before args current old mid followed r reads are t =
+    before (λ files. AreOverIndex args current files followed r) old mid reads are t

@@ -1,0 +1,295 @@
+//! Follows the policy of the manifest in the root.
+ghost use Rattle.std.specs.Prelude.{◌≡◌, ◌≢◌, ◌⊎◌, IfErr, IfOk, Option, Some, option_copied, true};
+ghost use Rattle.edit_base.specs.Errors.{IsMemory, number_of};
+ghost use Rattle.edit_base.specs.declared.errors.DeviceCall.TheVariants as call;
+ghost use Rattle.edit_metadata.specs.declared.input.Input.{Input};
+ghost use Rattle.edit_policy.specs.Manifests.{IsManifestFault, IsManifestPolicy};
+ghost use Rattle.edit_sources.specs.Configured.{given};
+ghost use Rattle.edit_steps.specs.Causes.{HasNoIndex, IsReadCause};
+ghost use Rattle.edit_steps.specs.Faults.{CountsFault};
+ghost use Rattle.edit_steps.specs.Sources.{AreDocuments, MayBePlanned};
+ghost use Rattle.edit_store.specs.Store.{IsCallError, OnlyReads};
+ghost use Rattle.edit_program.specs.Followed.{AreForPolicy, AreForRust, AreForVersion, AreOverIndex, HasBadPolicy, HasFaultIn, HasPolicyFault, HasRoot, HasRootFault, IsFollowed, IsFollowing, IsIndexBy, IsParsedFrom, IsPolicyIn, IsReady, IsRootPolicy, IsUnfollowed, with_index};
+ghost use Rattle.edit_program.specs.LockRead.{HasNoLock};
+ghost use Rattle.edit_program.specs.Planned.{to_manifest_request};
+
+use crate::upgrade_run::merging::merge_args;
+use crate::upgrade_run::policy_age::policy_bound;
+use crate::upgrade_run::reading::{ReadFiles, read_files};
+use crate::upgrade_run::upgrade_args::UpgradeArgs;
+use edit_diagnostics::explain_policy;
+use edit_document::Document;
+use edit_lock::Lock;
+use edit_metadata::{Input, root_input, with_rust_version};
+use edit_policy::{Policy, PolicyError, document_policy, manifest_policy};
+use edit_sources::PublishedBefore;
+use edit_steps::RunResult;
+use edit_steps::upgrade_read::{RustChoice, Sources, Target, read_index};
+use edit_store::Store;
+use edit_version::RustVersion;
+use std::alloc::{AllocError, Global};
+
+/// What an upgrade depends on: the files that were read, the lock file that its calls must be valid for, the
+/// policy of the project, and the arguments with its choices.
+pub(crate) struct Readings<'a> {
+    pub(crate) sources: Sources,
+    pub(crate) lock: Option<Lock>,
+    pub(crate) policy: Policy,
+    pub(crate) args: UpgradeArgs<'a>,
+}
+
+/// The policy in a manifest, of which this is the document where it is parsed already.
+fn input_policy(
+    alloc: Global,
+    input: &Input,
+    document: Option<&Document>,
+) -> Result<Policy, PolicyError>
+    requires document { IsParsedFrom (Some input.now) (option_copied document) }
+    ensures policy { IfOk result (IsManifestPolicy input.now.bytes.items) }
+    ensures error { IfErr result (IsManifestFault input.now.bytes.items) }
+{
+    match document {
+        Some(document) => document_policy(alloc, document),
+        None => manifest_policy(alloc, &input.bytes),
+    }
+}
+
+/// The policy in a manifest, of which this is the document where it is parsed already; one that says nothing
+/// where there is no manifest.
+fn policy_in(alloc: Global, root: Option<&Input>, document: Option<&Document>) -> RunResult<Policy>
+    requires document { IsParsedFrom (option_copied root) (option_copied document) }
+    ensures policy { IfOk result (IsPolicyIn (option_copied root.entry)) }
+    ensures error { IfErr result (λ r. HasFaultIn (option_copied root.entry) r.error) }
+    ensures counted { IfErr result (λ r. number_of r.error ≢ 3) }
+{
+    let Some(input) = root else {
+        return Ok(Policy::empty(alloc));
+    };
+    match input_policy(alloc, input, document) {
+        Ok(policy) => Ok(policy),
+        Err(error) => Err(explain_policy(alloc, input, error)),
+    }
+}
+
+/// The document of the manifest in the root, where it is parsed already: without metadata it is the only one.
+fn root_document(target: &Target) -> Option<&Document>
+    requires documents { AreDocuments target.now.documents.items target.now.inputs.items }
+    ensures { (root : Option Input) → HasRoot target.now root → IsParsedFrom root (option_copied result) }
+{
+    match target.workspace {
+        Some(_) => None,
+        None => target.documents.first(),
+    }
+}
+
+/// The policy of the manifest in the root.
+fn root_policy(alloc: Global, target: &Target) -> RunResult<Policy>
+    requires documents { AreDocuments target.now.documents.items target.now.inputs.items }
+    ensures policy { IfOk result (IsRootPolicy target.now) }
+    ensures error { IfErr result (λ r. IsMemory r.error ⊎ HasRootFault target.now r.error) }
+    ensures counted { IfErr result (λ r. number_of r.error ≢ 3) }
+{
+    let root = root_input(alloc, target.workspace.as_ref(), target.inputs.as_slice())?;
+    policy_in(alloc, root, root_document(target))
+}
+
+/// The policy of the manifest in the root; one that says nothing where it is ignored.
+fn read_policy(alloc: Global, ignored: bool, target: &Target) -> RunResult<Policy>
+    requires documents { AreDocuments target.now.documents.items target.now.inputs.items }
+    ensures policy { IfOk result (IsFollowed ignored target.now) }
+    ensures error { IfErr result (λ r. IsMemory r.error ⊎ HasPolicyFault ignored target.now r.error) }
+    ensures counted { IfErr result (λ r. number_of r.error ≢ 3) }
+{
+    if ignored {
+        Ok(Policy::empty(alloc))
+    } else {
+        root_policy(alloc, target)
+    }
+}
+
+/// The files that were read, with inputs for a Rust version.
+fn for_rust(alloc: Global, version: RustVersion, sources: Sources) -> Result<Sources, AllocError>
+    ensures sources { IfOk result (AreForRust version sources) }
+    ensures planned { MayBePlanned sources → IfOk result MayBePlanned }
+{
+    let Sources {
+        target,
+        configs,
+        index,
+    } = sources;
+    let Target {
+        workspace,
+        inputs,
+        documents,
+    } = target;
+    let inputs = with_rust_version(alloc, inputs, version)?;
+    let target = Target {
+        workspace,
+        inputs,
+        documents,
+    };
+    Ok(Sources {
+        target,
+        configs,
+        index,
+    })
+}
+
+/// The files that were read, with inputs for a Rust version where one is given.
+fn for_version(
+    alloc: Global,
+    version: Option<RustVersion>,
+    sources: Sources,
+) -> Result<Sources, AllocError>
+    ensures sources { IfOk result (AreForVersion version sources) }
+    ensures planned { MayBePlanned sources → IfOk result MayBePlanned }
+{
+    match version {
+        Some(version) => for_rust(alloc, version, sources),
+        None => Ok(sources),
+    }
+}
+
+/// The files that were read, with inputs for the Rust version of a policy where arguments do not say for
+/// which.
+fn for_policy(
+    alloc: Global,
+    rust: RustChoice,
+    version: Option<RustVersion>,
+    sources: Sources,
+) -> Result<Sources, AllocError>
+    ensures sources { IfOk result (AreForPolicy rust version sources) }
+    ensures planned { MayBePlanned sources → IfOk result MayBePlanned }
+{
+    match rust {
+        RustChoice::Own => for_version(alloc, version, sources),
+        RustChoice::Ignored | RustChoice::Given(_) => Ok(sources),
+    }
+}
+
+/// Follows the policy of the manifest in the root.
+fn follow_policy<'a>(
+    alloc: Global,
+    args: &UpgradeArgs<'a>,
+    own: ReadFiles,
+) -> RunResult<Readings<'a>>
+    requires planned { MayBePlanned own.sources }
+    ensures follows { IfOk result (IsFollowing args.now own) }
+    ensures planned { IfOk result (λ r. MayBePlanned r.sources) }
+    ensures error { IfErr result (λ r. IsMemory r.error
+        ⊎ IsUnfollowed args.now own.sources.target r.error) }
+    ensures counted { IfErr result (λ r. number_of r.error ≢ 3) }
+{
+    let ReadFiles { sources, lock } = own;
+    let policy = read_policy(alloc, args.no_policy, &sources.target)?;
+    let bound = policy_bound(alloc, args, &policy, &sources.target)?;
+    let merged = merge_args(alloc, args, &policy, bound)?;
+    let sources = for_policy(alloc, args.rust, policy.rust_version, sources)?;
+    Ok(Readings {
+        sources,
+        lock,
+        policy,
+        args: merged,
+    })
+}
+
+/// The files that were read, over the given index, which is read with this bound.
+fn with_index<S: Store>(
+    alloc: Global,
+    args: &UpgradeArgs<'_>,
+    bound: Option<PublishedBefore>,
+    sources: Sources,
+    current: &str,
+    files: &mut S,
+) -> RunResult<Sources>
+    ensures store { OnlyReads (S.view files.old) (S.view files.new) }
+    ensures same { IfOk result (λ s. s ≡ with_index s.index sources) }
+    ensures index { IfOk result (λ s. (S.view files.old).tells ≡ true
+        → IsIndexBy bound args.now current.now (S.view files.old).file_at s.index) }
+    ensures error { IfErr result (λ r. IsCallError call.Read (S.view files.old) (S.view files.new) r.error
+        ⊎ ((S.view files.old).tells ≡ true
+        → HasNoIndex (S.view files.old).file_at current.now (given args.now.index_file) r.error)) }
+    ensures counted { IfErr result (λ r. CountsFault (S.view files.old) (S.view files.new) r.error) }
+{
+    let read = read_index(
+        alloc,
+        args.index_file,
+        args.index_dir,
+        bound,
+        current,
+        files,
+    )?;
+    let Sources {
+        target,
+        configs,
+        index,
+    } = sources;
+    drop(index);
+    Ok(Sources {
+        target,
+        configs,
+        index: read,
+    })
+}
+
+/// What was read, over the given index, which is read with the bound of the arguments that it has.
+fn over_index<'a, S: Store>(
+    alloc: Global,
+    args: &UpgradeArgs<'_>,
+    readings: Readings<'a>,
+    current: &str,
+    files: &mut S,
+) -> RunResult<Readings<'a>>
+    ensures store { OnlyReads (S.view files.old) (S.view files.new) }
+    ensures index { IfOk result (λ r. (S.view files.old).tells ≡ true
+        → AreOverIndex args.now current.now (S.view files.old).file_at readings.entry r) }
+    ensures planned { MayBePlanned readings.entry.sources → IfOk result (λ r. MayBePlanned r.sources) }
+    ensures error { IfErr result (λ r. IsCallError call.Read (S.view files.old) (S.view files.new) r.error
+        ⊎ ((S.view files.old).tells ≡ true
+        → HasNoIndex (S.view files.old).file_at current.now (given args.now.index_file) r.error)) }
+    ensures counted { IfErr result (λ r. CountsFault (S.view files.old) (S.view files.new) r.error) }
+{
+    let Readings {
+        sources,
+        lock,
+        policy,
+        args: chosen,
+    } = readings;
+    let bound = chosen.published_before;
+    let sources = with_index(alloc, args, bound, sources, current, files)?;
+    Ok(Readings {
+        sources,
+        lock,
+        policy,
+        args: chosen,
+    })
+}
+
+/// Reads the given lock file and the manifests, follows the policy of the manifest in the root, and then
+/// reads the index, which the policy may bound. No file changes.
+pub(crate) fn read<'a, S: Store>(
+    alloc: Global,
+    args: &UpgradeArgs<'a>,
+    current: &str,
+    cargo_home: Option<&str>,
+    files: &mut S,
+) -> RunResult<Readings<'a>>
+    ensures store { OnlyReads (S.view files.old) (S.view files.new) }
+    ensures ready { IfOk result (λ r. (S.view files.old).tells ≡ true
+        → IsReady args.now current.now (given cargo_home.entry) (S.view files.old).file_at r) }
+    ensures planned { IfOk result (λ r. MayBePlanned r.sources) }
+    ensures error { IfErr result (λ r.
+        (IsReadCause current.now (given cargo_home.entry) (to_manifest_request args.now)
+        (S.view files.old) (S.view files.new) r.error
+        ⊎ ((S.view files.old).tells ≡ true
+        → HasNoLock args.now.to_lockfile (S.view files.old).file_at current.now (given args.now.lock_file)
+        r.error))
+        ⊎ ((S.view files.old).tells ≡ true
+        → HasBadPolicy args.now current.now (given cargo_home.entry) (S.view files.old).file_at r.error
+        ⊎ HasNoIndex (S.view files.old).file_at current.now (given args.now.index_file) r.error)) }
+    ensures counted { IfErr result (λ r. CountsFault (S.view files.old) (S.view files.new) r.error) }
+{
+    let own = read_files(alloc, args, current, cargo_home, files)?;
+    let readings = follow_policy(alloc, args, own)?;
+    over_index(alloc, args, readings, current, files)
+}

@@ -1,0 +1,3 @@
+pub mod RestrictedIndex
+pub mod Restrictions
+pub mod VersionTests
