@@ -19,8 +19,8 @@ fn input_at<'a>(inputs: &'a [Input], path: &str) -> Option<&'a Input>
     inputs.iter().find(|input| input.path.as_str() == path)
 }
 
-/// The manifest in the root of a workspace, and the first of all where there is no workspace; none where there
-/// is no such manifest.
+/// The manifest in the root of a workspace, and the first of all where there is no workspace; none where
+/// there is no such manifest.
 pub fn root_input<'a>(
     alloc: Global,
     workspace: Option<&Workspace>,

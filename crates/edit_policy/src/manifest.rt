@@ -8,8 +8,8 @@ use edit_base::Error;
 use edit_document::Document;
 use std::alloc::Global;
 
-/// Reads the policy in the document of a root manifest, as `Policy::of_manifest` does, and describes it by the
-/// bytes of the document.
+/// Reads the policy in the document of a root manifest, as `Policy::of_manifest` does, and describes it by
+/// the bytes of the document.
 pub fn document_policy(alloc: Global, document: &Document) -> Result<Policy, PolicyError>
     ensures policy { IfOk result (IsManifestPolicy document.now.bytes) }
     ensures error { IfErr result (IsManifestFault document.now.bytes) }

@@ -70,8 +70,8 @@ fn print_hidden<E: io::Write>(
 }
 
 /// Prints the notes on a plan, the note on crates in more than one compatible range, the warning that a dry
-/// run wrote nothing, the note on crates missing in the index, and the notes on what was held back for the age
-/// of versions.
+/// run wrote nothing, the note on crates missing in the index, and the notes on what was held back for the
+/// age of versions.
 pub(crate) fn print_notes<E: io::Write>(
     alloc: Global,
     plan: &UpgradePlan,
