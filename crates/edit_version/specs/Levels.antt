@@ -42,8 +42,8 @@ level_for all crates name =
     option_or (option_map (λ c. c.level) (find (λ c. bytes_eq (string_bytes c.name) name) crates)) all
 
 -- the level that levels have for the crate of a name (own)
-abbrev pub level_of : Levels → CrateBounds
-level_of levels = level_for levels.all levels.crates.now
+unfoldable pub level_of : Levels → CrateBounds
+level_of levels name = level_for levels.all levels.crates.now name
 
 -- the levels for single crates, each behind the name of its crate (own)
 abbrev pub crate_levels : List CrateLevel → List (List ℕ × Level)

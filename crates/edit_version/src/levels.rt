@@ -43,6 +43,7 @@ fn first_for<'a>(crates: &'a [CrateLevel], name: &str) -> Option<&'a CrateLevel>
 
 impl Levels<'_> {
     /// The level for a crate: the first one for its name, else the one for all crates.
+    #[tactic(auto, unfolding(crate::specs::Levels::level_of))]
     pub fn for_crate(self, name: &str) -> Option<Level>
         ensures { result ≡ level_of self.entry name.now }
     {
