@@ -69,7 +69,8 @@ pub(crate) fn leader<'a>(
     leaders: &Leaders<'a>,
     own: &Stand<'a>,
 ) -> Option<Stand<'a>>
-    ensures { option_map stand_view result ≡ best_of (level_of levels.entry) leaders.now (stand_view own.now) }
+    ensures { option_map stand_view result
+        ≡ best_of (level_of levels.entry) leaders.now (stand_view own.now) }
 {
     leaders.get(&group_of(levels, own)).copied()
 }

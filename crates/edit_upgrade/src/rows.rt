@@ -162,8 +162,8 @@ fn row_with(
 ) -> CargoResult<Row>
     ensures ok { IfOk result (λ r. (answer : Option Answer) → IsRankingOf answer (option_copied ranked.entry)
         → IsDecided job.entry.number job.entry.parsed.options.now
-        (versions_within (level_in job.entry.parsed.options.now (row_entry_view entry.now).name) (text_in old.now)
-        (versions_in (numbers_in job.entry.input.now.rust_version) answer))
+        (versions_within (level_in job.entry.parsed.options.now (row_entry_view entry.now).name)
+        (text_in old.now) (versions_in (numbers_in job.entry.input.now.rust_version) answer))
         (row_entry_view entry.now) (text_in old.now) (line_of r)) }
     ensures error { IfErr result IsMemory }
 {
