@@ -136,6 +136,7 @@ fn default_options(alloc: Global) -> Options {
         pinned: false,
         never_lower: false,
         level: None,
+        crate_levels: Vec::new(alloc),
         package: Vec::new(alloc),
         exclude: Vec::new(alloc),
         dry_run: false,

@@ -15,8 +15,9 @@ use std::alloc::{AllocError, Global};
 
 /// The help for a key that no policy has.
 const KEYS: &str =
-    "a policy has the keys `compatible`, `crates`, `exclude`, `incompatible`, `level`, `min-age`, `never-lower`, \
-    `pinned` and `rust-version`, and each crate in `crates` the keys `hold` and `reason`";
+    "a policy has the keys `compatible`, `crates`, `exclude`, `incompatible`, `level`, `min-age`, \
+    `never-lower`, `pinned` and `rust-version`, and each crate in `crates` the keys `hold`, `level` and \
+    `reason`";
 
 /// The help for other values.
 const IGNORE: &str = "`--no-policy` ignores the policy";

@@ -10,7 +10,7 @@ use Rattle.edit_tree.specs.Tree.{View}
 use Rattle.edit_version.specs.Requirement.{comparators_of, requirement_read}
 use Rattle.edit_policy.specs.Policies.{AreCratePolicies, HasOnlyKeys, IsCratePolicy, item_under, member}
 use Rattle.edit_policy.specs.PolicyTables.{IsTableAt, item_at, place_in, tree_in}
-use Rattle.edit_policy.specs.Values.{Tree, by_text, is_fit, value_in}
+use Rattle.edit_policy.specs.Values.{Tree, by_text, is_fit, level_of, value_in}
 use Rattle.edit_policy.specs.declared.keys.Expected.TheVariants.{Table}
 use Rattle.edit_policy.specs.declared.keys.KeySet.TheVariants.{OfCrate}
 use Rattle.edit_policy.specs.declared.policy.CratePolicy.{CratePolicy}
@@ -25,9 +25,10 @@ pub crate_at : (d : DocumentViews) (crates : Place) (name : List ℕ) (table : P
     → value_in (by_text requirement_read) (item_at table (codes "hold"))
     ≡ Some (option_map (λ h. comparators_of h.requirement) c.hold)
     → value_in string_in (item_at table (codes "hold")) ≡ Some (option_map (λ h. string_bytes h.text) c.hold)
+    → value_in (by_text level_of) (item_at table (codes "level")) ≡ Some c.level
     → value_in string_in (item_at table (codes "reason")) ≡ Some (option_map string_bytes c.reason)
     → string_bytes c.name ≡ name → IsCratePolicy (tree_of d) crates name c
-crate_at d crates name table c at there keys hold text reason named =
+crate_at d crates name table c at there keys hold text level reason named =
     let place = member crates name in
     let t = tree_in table in
     let own = place_in table in
@@ -41,6 +42,9 @@ crate_at d crates name table c at there keys hold text reason named =
       text = moved (λ w q. value_in string_in (item_under (tree_of w) q (codes "hold"))
           ≡ Some (option_map (λ h. string_bytes h.text) c.hold)) d place table at
           (value_under string_in t own (codes "hold") v _ there text);
+      level = moved (λ w q. value_in (by_text level_of) (item_under (tree_of w) q (codes "level"))
+          ≡ Some c.level) d place table at
+          (value_under (by_text level_of) t own (codes "level") v _ there level);
       reason = moved (λ w q. value_in string_in (item_under (tree_of w) q (codes "reason"))
           ≡ Some (option_map string_bytes c.reason)) d place table at
           (value_under string_in t own (codes "reason") v _ there reason);
@@ -48,9 +52,9 @@ crate_at d crates name table c at there keys hold text reason named =
 
 -- nothing is said of a crate where it has no table
 pub absent_crate : (t : Tree) (crates : Place) (name : List ℕ) (c : CratePolicy)
-    → t (member crates name) ≡ None → string_bytes c.name ≡ name → c.hold ≡ None → c.reason ≡ None
-    → IsCratePolicy t crates name c
-absent_crate t crates name c none named hold reason =
+    → t (member crates name) ≡ None → string_bytes c.name ≡ name → c.hold ≡ None → c.level ≡ None
+    → c.reason ≡ None → IsCratePolicy t crates name c
+absent_crate t crates name c none named hold level reason =
     let place = member crates name in
     record {
       named = named;
@@ -59,6 +63,8 @@ absent_crate t crates name c none named hold reason =
           ∙ ap (λ o. Some (option_map (λ h. comparators_of h.requirement) o)) (sym hold);
       text = ap (value_in string_in) (nothing_under t place (codes "hold") none)
           ∙ ap (λ o. Some (option_map (λ h. string_bytes h.text) o)) (sym hold);
+      level = ap (value_in (by_text level_of)) (nothing_under t place (codes "level") none)
+          ∙ ap Some (sym level);
       reason = ap (value_in string_in) (nothing_under t place (codes "reason") none)
           ∙ ap (λ o. Some (option_map string_bytes o)) (sym reason);
     }

@@ -3,4 +3,5 @@ mod DayLemmas
 mod FaultLemmas
 mod FormLemmas
 mod ItemLemmas
+mod LevelLemmas
 mod PolicyLemmas

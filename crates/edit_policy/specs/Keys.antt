@@ -23,7 +23,8 @@ policy_key name =
 abbrev pub crate_key : List ℕ → Expected
 crate_key name =
     if bytes_eq name (codes "hold") then Requirement
-    else (if bytes_eq name (codes "reason") then Text else Absent)
+    else (if bytes_eq name (codes "level") then Level
+    else (if bytes_eq name (codes "reason") then Text else Absent))
 
 -- what the value of a key has to be, by the keys that its table may have (own)
 abbrev pub expected_at : KeySet → List ℕ → Expected

@@ -44,6 +44,8 @@ pub record IsCratePolicy (t : Tree) (crates : Place) (name : List ℕ) (c : Crat
       ≡ Some (option_map (λ h. comparators_of h.requirement) c.hold)
   pub text : value_in string_in (item_under t (member crates name) (codes "hold"))
       ≡ Some (option_map (λ h. string_bytes h.text) c.hold)
+  pub level : value_in (by_text level_of) (item_under t (member crates name) (codes "level"))
+      ≡ Some c.level
   pub reason : value_in string_in (item_under t (member crates name) (codes "reason"))
       ≡ Some (option_map string_bytes c.reason)
 

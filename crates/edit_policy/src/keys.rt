@@ -70,6 +70,7 @@ fn crate_key(name: &str) -> Expected
 {
     match name {
         "hold" => Expected::Requirement,
+        "level" => Expected::Level,
         "reason" => Expected::Text,
         _ => Expected::Absent,
     }

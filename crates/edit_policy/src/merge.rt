@@ -1,10 +1,11 @@
 //! The choices of a run, by the command line and by the policy.
 ghost use Rattle.std.specs.Prelude.{◌≡◌, ◌++◌, IfOk, OnOk, map, string_bytes};
-ghost use Rattle.std.specs.Option.{option_or};
-ghost use Rattle.edit_policy.specs.Merged.{choice};
+ghost use Rattle.std.specs.Option.{option_or, option_to_list};
+ghost use Rattle.edit_policy.specs.Merged.{choice, crate_level, merged_levels};
+ghost use Rattle.edit_version.specs.Levels.{crate_levels};
 
-use crate::policy::Policy;
-use edit_version::Level;
+use crate::policy::{CratePolicy, Policy};
+use edit_version::{CrateLevel, Level};
 use std::alloc::{AllocError, Global};
 
 /// Which upgrades are made, and how far they may go.
@@ -96,4 +97,39 @@ pub fn merge_excluded(
     append_texts(alloc, exclude, &mut all)?;
     append_texts(alloc, &policy.exclude, &mut all)?;
     Ok(all)
+}
+
+/// Appends the level that a policy has for a crate, where it has one.
+fn append_level(
+    alloc: Global,
+    krate: &CratePolicy,
+    levels: &mut Vec<CrateLevel>,
+) -> Result<(), AllocError>
+    ensures { OnOk result (crate_levels levels.new.items
+        ≡ crate_levels levels.old.items ++ option_to_list (crate_level krate.now)) }
+{
+    if let Some(level) = krate.level {
+        let name = String::from_str(alloc, krate.name.as_str())?;
+        levels.push(CrateLevel { name, level })?;
+    }
+    Ok(())
+}
+
+/// The levels for single crates: those of the policy, or none where an argument gives a level, which is for
+/// all crates.
+pub fn merge_crate_levels(
+    alloc: Global,
+    given: Option<Level>,
+    policy: &Policy,
+) -> Result<Vec<CrateLevel>, AllocError>
+    ensures { IfOk result (λ v. crate_levels v.items ≡ merged_levels given policy.now.crates.items) }
+{
+    let mut levels = Vec::new(alloc);
+    if given.is_some() {
+        return Ok(levels);
+    }
+    'crates: for krate in &policy.crates {
+        append_level(alloc, krate, &mut levels)?;
+    }
+    Ok(levels)
 }

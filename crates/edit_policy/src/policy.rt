@@ -28,6 +28,8 @@ pub struct Hold {
 pub struct CratePolicy {
     pub name: String,
     pub hold: Option<Hold>,
+    /// How far an upgrade may go from what the old requirement names.
+    pub level: Option<Level>,
     /// Why the crate is held.
     pub reason: Option<String>,
 }
@@ -52,12 +54,14 @@ pub struct Policy {
 
 /// What a policy says of a crate without a table of its own.
 fn unheld_crate(alloc: Global, name: &str) -> Result<CratePolicy, AllocError>
-    ensures { IfOk result (λ c. (string_bytes c.name ≡ name.now) × (c.hold ≡ None) × (c.reason ≡ None)) }
+    ensures { IfOk result (λ c. (string_bytes c.name ≡ name.now) × (c.hold ≡ None) × (c.level ≡ None)
+        × (c.reason ≡ None)) }
 {
     let name = String::from_str(alloc, name)?;
     Ok(CratePolicy {
         name,
         hold: None,
+        level: None,
         reason: None,
     })
 }
@@ -75,10 +79,16 @@ fn read_crate(
         return Ok(unheld_crate(alloc, name)?);
     };
     table.check_keys(alloc, KeySet::OfCrate)?;
+    let level = table.level_at(alloc, "level")?;
     let hold = table.hold_at(alloc, "hold")?;
     let reason = table.text_at(alloc, "reason")?;
     let name = String::from_str(alloc, name)?;
-    Ok(CratePolicy { name, hold, reason })
+    Ok(CratePolicy {
+        name,
+        hold,
+        level,
+        reason,
+    })
 }
 
 /// What a policy says of crates.

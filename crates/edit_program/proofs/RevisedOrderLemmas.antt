@@ -18,11 +18,12 @@ use Rattle.edit_steps.proofs.DistinctPaths.{outputs_differ}
 use Rattle.edit_unify.specs.Stands.{Required, stands_of}
 use Rattle.edit_unify.specs.Unified.{AreEach, IsRowWith, IsUnified}
 use Rattle.edit_upgrade.proofs.RevisedOutputs.{outputs_in_order}
+use Rattle.edit_upgrade.specs.OptionLevels.{level_in}
 use Rattle.edit_upgrade.specs.Drafts.{outputs_on}
 use Rattle.edit_upgrade.specs.Inputs.{OutputsInOrder, RowsInOrder}
 use Rattle.edit_upgrade.specs.Revisions.{HasRevisedOutputs}
 use Rattle.edit_upgrade.specs.declared.upgrade.UpgradePlan.{UpgradePlan}
-use Rattle.edit_version.specs.declared.levels.Level.{Level}
+use Rattle.edit_version.specs.Levels.{CrateBounds}
 use Rattle.edit_program.specs.Choosing.{IsChosenOrSame}
 use Rattle.edit_program.specs.Revising.{IsRevised}
 use Rattle.edit_program.specs.Tables.{AreInOrder}
@@ -56,13 +57,13 @@ text_input true text row after same = ap (λ (r : Row). r.input) same
 text_input false text row after takes = takes.input
 
 -- as is one that is unified
-unified_input : (level : Option Level) (stands : List (Option Required)) (own : Option Required)
+unified_input : (level : CrateBounds) (stands : List (Option Required)) (own : Option Required)
     (row after : Row) → IsUnified level stands own row after → after.input ≡ row.input
 unified_input level stands None row after same = ap (λ (r : Row). r.input) same
 unified_input level stands (Some own) row after unified =
     text_input (bytes_eq unified.0 own.text) unified.0 row after unified.2
 
-each_input : (level : Option Level) (stands owns : List (Option Required)) (rows after : List Row)
+each_input : (level : CrateBounds) (stands owns : List (Option Required)) (rows after : List Row)
     → AreEach level stands owns rows after → inputs_of after ≡ inputs_of rows
 each_input level stands [] [] [] each = refl
 each_input level stands [] [] (a ∷ after) each = absurd each
@@ -75,7 +76,7 @@ each_input level stands (own ∷ owns) (row ∷ rows) (a ∷ after) each =
     ap (λ (i : ℕ). i ∷ inputs_of after) (unified_input level stands own row a each.0)
     ∙ ap (λ (is : List ℕ). row.input ∷ is) (each_input level stands owns rows after each.1)
 
-unified_inputs : (due : Bool) (level : Option Level) (inputs : List Input) (configs : List (Vec Config))
+unified_inputs : (due : Bool) (level : CrateBounds) (inputs : List Input) (configs : List (Vec Config))
     (single p : UpgradePlan) (addresses : List (Option (List ℕ)))
     → IsUnifiedOrSame due level inputs configs single p addresses
     → inputs_of p.rows.items ≡ inputs_of single.rows.items
@@ -115,7 +116,7 @@ pub revised_rows : (args : UpgradeArgs) (inputs : List Input) (configs : List (V
 revised_rows args inputs configs single p apart turns revised =
     same_order (λ (row : Row). row.input) single.rows.items p.rows.items
     (chosen_inputs args.rows inputs revised.unified p revised.chosen
-    ∙ unified_inputs args.unify args.options.level inputs configs single revised.unified revised.addresses
+    ∙ unified_inputs args.unify (level_in args.options) inputs configs single revised.unified revised.addresses
     revised.unifies)
     (rows_in_order inputs single turns)
 
@@ -128,7 +129,7 @@ made_apart inputs rows outputs own made =
     outputs_differ (λ path. not (length (outputs_on path outputs) == 0)) inputs outputs own
     (outputs_in_order inputs rows outputs own made)
 
-unified_outputs : (due : Bool) (level : Option Level) (inputs : List Input) (configs : List (Vec Config))
+unified_outputs : (due : Bool) (level : CrateBounds) (inputs : List Input) (configs : List (Vec Config))
     (single p : UpgradePlan) (addresses : List (Option (List ℕ))) → HaveOwnPaths inputs
     → OutputsInOrder inputs single → IsUnifiedOrSame due level inputs configs single p addresses
     → HaveDistinctPaths p.outputs.items
@@ -153,6 +154,6 @@ pub revised_outputs : (args : UpgradeArgs) (inputs : List Input) (configs : List
     → IsRevised args inputs configs single p apart → HaveDistinctPaths p.outputs.items
 revised_outputs args inputs configs single p apart own turns revised =
     chosen_outputs args.rows inputs revised.unified p own
-    (unified_outputs args.unify args.options.level inputs configs single revised.unified revised.addresses own
+    (unified_outputs args.unify (level_in args.options) inputs configs single revised.unified revised.addresses own
     turns revised.unifies)
     revised.chosen

@@ -15,12 +15,13 @@ use Rattle.edit_steps.specs.Sources.{AreDocuments}
 use Rattle.edit_tree.specs.DocumentViews.{DocumentViews}
 use Rattle.edit_unify.specs.Stands.{Required}
 use Rattle.edit_unify.specs.Unified.{AreEach, AreUnified, HasOneText, IsRowWith, IsUnified}
+use Rattle.edit_upgrade.specs.OptionLevels.{level_in}
 use Rattle.edit_upgrade.specs.ConfigLists.{chosen_lists}
 use Rattle.edit_upgrade.specs.Lists.{HasRowLists}
 use Rattle.edit_upgrade.specs.Revisions.{AreRowsOf, AreUtf8, HasRevisedOutputs, HasRowAddresses}
 use Rattle.edit_upgrade.specs.declared.upgrade.UpgradePlan.{UpgradePlan}
 use Rattle.edit_upgrade.proofs.RevisedRows.{HaveSameInputs, rows_same}
-use Rattle.edit_version.specs.declared.levels.Level.{Level}
+use Rattle.edit_version.specs.Levels.{CrateBounds}
 use Rattle.edit_program.specs.Choosing.{AreRowsListedIn, HasMissingRow, IsChosenOrSame, IsChosenPlan}
 use Rattle.edit_program.specs.Revising.{IsRevised, IsRevisionError}
 use Rattle.edit_program.specs.Unifying.{IsUnifiedOrSame, IsUnifiedOver}
@@ -28,7 +29,7 @@ use Rattle.edit_program.specs.declared.upgrade_run.upgrade_args.UpgradeArgs.{Upg
 use Rattle.edit_program.proofs.CountLemmas.{memory_counts}
 
 -- the warnings of a unified plan
-unified_warnings : (due : Bool) (level : Option Level) (inputs : List Input) (configs : List (Vec Config))
+unified_warnings : (due : Bool) (level : CrateBounds) (inputs : List Input) (configs : List (Vec Config))
     (single p : UpgradePlan) (addresses : List (Option (List ℕ)))
     → IsUnifiedOrSame due level inputs configs single p addresses → p.warnings ≡ single.warnings
 unified_warnings true level inputs configs single p addresses unified = unified.warnings
@@ -47,7 +48,7 @@ pub revised_warnings : (args : UpgradeArgs) (inputs : List Input) (configs : Lis
     → p.warnings ≡ single.warnings
 revised_warnings args inputs configs single p apart revised =
     chosen_warnings args.rows inputs revised.unified p revised.chosen
-    ∙ unified_warnings args.unify args.options.level inputs configs single revised.unified revised.addresses
+    ∙ unified_warnings args.unify (level_in args.options) inputs configs single revised.unified revised.addresses
     revised.unifies
 
 -- an error that lists rows is not the device's
@@ -94,13 +95,13 @@ with_input : (b : Bool) (text : List ℕ) (row a : Row) → IsRowWith b text row
 with_input true text row a same = ap (λ (r : Row). r.input) same
 with_input false text row a with = with.input
 
-unified_input : (level : Option Level) (stands : List (Option Required)) (own : Option Required) (row a : Row)
+unified_input : (level : CrateBounds) (stands : List (Option Required)) (own : Option Required) (row a : Row)
     → IsUnified level stands own row a → a.input ≡ row.input
 unified_input level stands None row a same = ap (λ (r : Row). r.input) same
 unified_input level stands (Some own) row a unified =
     with_input (bytes_eq unified.0 own.text) unified.0 row a unified.2
 
-unified_inputs : (level : Option Level) (stands owns : List (Option Required)) (rows after : List Row)
+unified_inputs : (level : CrateBounds) (stands owns : List (Option Required)) (rows after : List Row)
     → AreEach level stands owns rows after → HaveSameInputs rows after
 unified_inputs level stands [] [] [] are = tt
 unified_inputs level stands [] [] (a ∷ after) are = absurd are
@@ -113,14 +114,14 @@ unified_inputs level stands (own ∷ owns) (row ∷ rows) (a ∷ after) are =
     (unified_input level stands own row a are.0, unified_inputs level stands owns rows after are.1)
 
 -- rows that are unified
-pub unified_rows_of : (level : Option Level) (addresses : List (Option (List ℕ))) (inputs : List Input)
+pub unified_rows_of : (level : CrateBounds) (addresses : List (Option (List ℕ))) (inputs : List Input)
     (rows after : List Row) → AreUnified level addresses rows after → AreRowsOf inputs rows
     → AreRowsOf inputs after
 unified_rows_of level addresses inputs rows after unified are =
     rows_same 0 inputs rows after (unified_inputs level _ _ rows after unified) are
 
 -- the rows of a plan that is unified where that is requested
-pub plan_rows_of : (due : Bool) (level : Option Level) (inputs : List Input) (configs : List (Vec Config))
+pub plan_rows_of : (due : Bool) (level : CrateBounds) (inputs : List Input) (configs : List (Vec Config))
     (single p : UpgradePlan) (addresses : List (Option (List ℕ)))
     → IsUnifiedOrSame due level inputs configs single p addresses → AreRowsOf inputs single.rows.items
     → AreRowsOf inputs p.rows.items
@@ -154,7 +155,7 @@ over_slices P inputs is lists ls which js one two three h =
     (subst (λ (ns : List ℕ). P inputs (chosen_lists lists ns)) (sym three) h))
 
 -- a unified plan, from what the rows, the addresses and the outputs are
-pub unified_over : (level : Option Level) (inputs again : List Input) (configs : List (Vec Config))
+pub unified_over : (level : CrateBounds) (inputs again : List Input) (configs : List (Vec Config))
     (single p : UpgradePlan) (rows : List Row) (addresses shown : List (Option (List ℕ))) → again ≡ inputs
     → shown ≡ addresses → HasRowAddresses inputs configs addresses
     → AreUnified level shown single.rows.items rows → HasOneText level shown rows → p.rows.items ≡ rows

@@ -3,12 +3,13 @@ use Rattle.std.specs.Prelude.{◌≡◌, ◌++◌, ℕ, List, Option, Some, None
 use Rattle.std.specs.Option.{option_or}
 use Rattle.edit_choice.specs.Choices.{IsSameChoice}
 use Rattle.edit_choice.specs.declared.items.RowChoice.{RowChoice}
-use Rattle.edit_policy.specs.Merged.{choice}
+use Rattle.edit_policy.specs.Merged.{choice, merged_levels}
 use Rattle.edit_policy.specs.declared.merge.GivenChoices.{GivenChoices}
 use Rattle.edit_policy.specs.declared.policy.Policy.{Policy}
 use Rattle.edit_sources.specs.Published.{days_before, instant_of}
 use Rattle.edit_sources.specs.declared.published.PublishedBefore.{PublishedBefore}
 use Rattle.edit_upgrade.specs.EntrySelection.{excluded_of, package_args_of}
+use Rattle.edit_version.specs.Levels.{crate_levels}
 use Rattle.edit_upgrade.specs.declared.decision.options.Options.{Options}
 use Rattle.edit_program.specs.declared.upgrade_run.upgrade_args.UpgradeArgs.{UpgradeArgs}
 
@@ -36,14 +37,15 @@ LacksTime (Some first) time age = ⊥
 LacksTime None time age = HasNoTime time age
 
 -- options with what a policy says, where it is known which choices are given: these come first, those of the
--- policy second and defaults last; a given level comes before that of the policy; the names that both exclude
--- are joined, and all else stays
+-- policy second and defaults last; a given level comes before those of the policy, also before its levels for
+-- single crates; the names that both exclude are joined, and all else stays
 pub record AreMerged (o : Options) (g : GivenChoices) (p : Policy) (m : Options) : Type 0 where
   pub compatible : m.compatible ≡ choice g.compatible o.compatible p.compatible
   pub incompatible : m.incompatible ≡ choice g.incompatible o.incompatible p.incompatible
   pub pinned : m.pinned ≡ choice g.pinned o.pinned p.pinned
   pub never_lower : m.never_lower ≡ choice o.never_lower o.never_lower p.never_lower
   pub level : m.level ≡ option_or o.level p.level
+  pub crate_levels : crate_levels m.crate_levels.items ≡ merged_levels o.level p.crates.items
   pub exclusions : excluded_of m ≡ excluded_of o ++ map string_bytes p.exclude.items
   pub packages : package_args_of m ≡ package_args_of o
   pub dry_run : m.dry_run ≡ o.dry_run

@@ -69,6 +69,7 @@ pub record HasOptions (rows : List Row) (o : Options) : Type 0 where
       ≡ (is_given (codes "never-lower") rows || is_given (codes "to-lockfile") rows)
   pub packages : package_args_of o ≡ values_of (codes "package") rows
   pub exclusions : excluded_of o ≡ values_of (codes "exclude") rows
+  pub crate_levels : o.crate_levels.items ≡ []
 
 -- which of the choices of an upgrade arguments give; `--to-lockfile` gives that on incompatible upgrades
 pub record HasGivenChoices (rows : List Row) (g : GivenChoices) : Type 0 where

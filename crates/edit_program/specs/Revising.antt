@@ -5,6 +5,7 @@ use Rattle.std.specs.declared.alloc.Global.{Global}
 use Rattle.edit_base.specs.declared.errors.Error.{Error}
 use Rattle.edit_metadata.specs.declared.input.Input.{Input}
 use Rattle.edit_sources.specs.declared.config.Config.{Config}
+use Rattle.edit_upgrade.specs.OptionLevels.{level_in}
 use Rattle.edit_upgrade.specs.declared.upgrade.UpgradePlan.{UpgradePlan}
 use Rattle.edit_unify.specs.Apart.{AreNames, apart_names}
 use Rattle.edit_unify.specs.Stands.{stands_of}
@@ -23,7 +24,7 @@ pub record IsRevised (args : UpgradeArgs) (inputs : List Input) (configs : List 
     (single p : UpgradePlan) (apart : List (List ℕ)) : Type 0 where
   pub unified : UpgradePlan
   pub addresses : List (Option (List ℕ))
-  pub unifies : IsUnifiedOrSame args.unify args.options.level inputs configs single unified addresses
+  pub unifies : IsUnifiedOrSame args.unify (level_in args.options) inputs configs single unified addresses
   pub chosen : IsChosenOrSame args.rows inputs unified p
   pub names : AreApart addresses p apart
 
@@ -32,5 +33,5 @@ pub record IsRevisionError (args : UpgradeArgs) (inputs : List Input) (configs :
     (single : UpgradePlan) (e : Error) : Type 0 where
   pub unified : UpgradePlan
   pub addresses : List (Option (List ℕ))
-  pub unifies : IsUnifiedOrSame args.unify args.options.level inputs configs single unified addresses
+  pub unifies : IsUnifiedOrSame args.unify (level_in args.options) inputs configs single unified addresses
   pub missing : HasMissingRow args.rows unified.rows.items e

@@ -164,6 +164,7 @@ fn options_of<'a>(
         verbosity: verbosity(matches.get_count("verbose"), matches.get_count("quiet")),
         never_lower: is_either_given(matches, "never-lower", "to-lockfile"),
         level,
+        crate_levels: Vec::new(alloc),
     })
 }
 

@@ -3,7 +3,7 @@ use Rattle.std.proofs.Common.{◌≡◌, ◌∷◌, [], ◌∙◌, ◌<◌, ◌�
 use Rattle.std.specs.Prelude.{◌&&◌, Contains, if◌then◌else◌}
 use Rattle.std.specs.List.{fold}
 use Rattle.std.proofs.lemmas.Bool.Decides.{nat_tests}
-use Rattle.edit_version.specs.declared.levels.Level.{Level}
+use Rattle.edit_version.specs.Levels.{CrateBounds}
 use Rattle.edit_unify.specs.Ranges.{Caret, is_higher}
 use Rattle.edit_unify.specs.Stands.{Required, is_together}
 use Rattle.edit_unify.specs.Leaders.{better, is_better, leader}
@@ -29,7 +29,7 @@ pub not_higher : (x : Caret) → is_higher x x ≡ false
 not_higher x = grind (arith, nat_tests)
 
 -- after the rows that follow a best one, the leader is one of these, or it; none of them has a higher floor
-pub record IsLeading (level : Option Level) (own b : Required) (stands : List (Option Required))
+pub record IsLeading (level : CrateBounds) (own b : Required) (stands : List (Option Required))
     (l : Required) : Type 0 where
   pub from : (b ≡ l) ⊎ (Contains stands (Some l) × (is_together level own l ≡ true))
   pub over : is_higher b.caret l.caret ≡ false
@@ -56,7 +56,7 @@ higher_under : (o b l : Caret) → is_higher o b ≡ false → is_higher b l ≡
 higher_under o b l not_o not_b = grind (arith, nat_tests, not_o, not_b)
 
 -- the leader from a best one on, where the step to the next one is known
-lead_on : (level : Option Level) (own b other : Required) (stands : List (Option Required)) (l : Required)
+lead_on : (level : CrateBounds) (own b other : Required) (stands : List (Option Required)) (l : Required)
     → ((best : Required) → fold (better level own) (Some best) stands ≡ Some l
     → IsLeading level own best stands l)
     → (t : Bool) → is_together level own other ≡ t → (h : Bool) → is_higher other.caret b.caret ≡ h
@@ -90,7 +90,7 @@ lead_on level own b other stands l rest false t h e is = let r = rest b is in re
       (λ later. r.highest x later with) (first_or_rest (Some other) (Some x) stands has);
 }
 
-pub leading : (level : Option Level) (own b : Required) (stands : List (Option Required)) (l : Required)
+pub leading : (level : CrateBounds) (own b : Required) (stands : List (Option Required)) (l : Required)
     → fold (better level own) (Some b) stands ≡ Some l → IsLeading level own b stands l
 leading level own b [] l is = record {
   from = inl (some_is b l is);
@@ -108,7 +108,7 @@ leading level own b (Some other ∷ stands) l is =
     (is_together level own other) refl (is_higher other.caret b.caret) refl is
 
 -- what a row is among, that leads another one
-pub record IsLeader (level : Option Level) (own : Required) (stands : List (Option Required))
+pub record IsLeader (level : CrateBounds) (own : Required) (stands : List (Option Required))
     (l : Required) : Type 0 where
   pub among : Contains stands (Some l)
   pub together : is_together level own l ≡ true
@@ -116,7 +116,7 @@ pub record IsLeader (level : Option Level) (own : Required) (stands : List (Opti
       → is_higher other.caret l.caret ≡ false
 
 -- the leader, where the first one may be the best so far
-lead_from : (level : Option Level) (own other : Required) (stands : List (Option Required)) (l : Required)
+lead_from : (level : CrateBounds) (own other : Required) (stands : List (Option Required)) (l : Required)
     → (leader level own stands ≡ Some l → IsLeader level own stands l)
     → (t : Bool) → is_together level own other ≡ t
     → fold (better level own) (if t && true then Some other else None) stands ≡ Some l
@@ -142,7 +142,7 @@ lead_from level own other stands l rest false t is = let r = rest is in record {
       (λ later. r.highest x later with) (first_or_rest (Some other) (Some x) stands has);
 }
 
-pub leader_is : (level : Option Level) (own : Required) (stands : List (Option Required)) (l : Required)
+pub leader_is : (level : CrateBounds) (own : Required) (stands : List (Option Required)) (l : Required)
     → leader level own stands ≡ Some l → IsLeader level own stands l
 leader_is level own [] l is = absurd (none_is l is)
 leader_is level own (None ∷ stands) l is = let r = leader_is level own stands l is in record {
@@ -155,14 +155,14 @@ leader_is level own (Some other ∷ stands) l is =
     lead_from level own other stands l (λ so_far. leader_is level own stands l so_far)
     (is_together level own other) refl is
 
-stays_on : (level : Option Level) (own b other : Required) (stands : List (Option Required))
+stays_on : (level : CrateBounds) (own b other : Required) (stands : List (Option Required))
     → ((best : Required) → fold (better level own) (Some best) stands ≡ None → ⊥)
     → (t : Bool) → fold (better level own) (if t then Some other else Some b) stands ≡ None → ⊥
 stays_on level own b other stands rest true is = rest other is
 stays_on level own b other stands rest false is = rest b is
 
 -- a best one is never lost
-best_stays : (level : Option Level) (own b : Required) (stands : List (Option Required))
+best_stays : (level : CrateBounds) (own b : Required) (stands : List (Option Required))
     → fold (better level own) (Some b) stands ≡ None → ⊥
 best_stays level own b [] is = cc is
 best_stays level own b (None ∷ stands) is = best_stays level own b stands is
@@ -170,7 +170,7 @@ best_stays level own b (Some other ∷ stands) is =
     stays_on level own b other stands (λ best so_far. best_stays level own best stands so_far)
     (is_better level own (Some b) other) is
 
-there_on : (level : Option Level) (own x other : Required) (stands : List (Option Required))
+there_on : (level : CrateBounds) (own x other : Required) (stands : List (Option Required))
     → (Contains stands (Some x) → leader level own stands ≡ None → ⊥)
     → Contains (Some other ∷ stands) (Some x) → is_together level own x ≡ true
     → (t : Bool) → is_together level own other ≡ t
@@ -181,7 +181,7 @@ there_on level own x other stands rest has with false t is = ⊎_elim
     (first_or_rest (Some other) (Some x) stands has)
 
 -- a row that is together with one of the rows has a leader
-pub leader_there : (level : Option Level) (own x : Required) (stands : List (Option Required))
+pub leader_there : (level : CrateBounds) (own x : Required) (stands : List (Option Required))
     → Contains stands (Some x) → is_together level own x ≡ true → leader level own stands ≡ None → ⊥
 leader_there level own x [] has with is = none_in (Some x) has
 leader_there level own x (None ∷ stands) has with is =

@@ -6,7 +6,7 @@ use Rattle.std.specs.Str.{bytes_eq}
 use Rattle.std.specs.declared.alloc.Global.{Global}
 use Rattle.std.proofs.lemmas.Slice.Eq.{bytes_eq-Decides}
 use Rattle.edit_report.specs.declared.row.Row.{Row}
-use Rattle.edit_version.specs.declared.levels.Level.{Level}
+use Rattle.edit_version.specs.Levels.{CrateBounds}
 use Rattle.edit_unify.specs.Leaders.{better, leader}
 use Rattle.edit_unify.specs.Ranges.{Caret, caret_of, is_same_range, keeps_level}
 use Rattle.edit_unify.specs.Stands.{Required, is_left_out, is_same_crate, is_together, required, stand_of, stands_of}
@@ -15,7 +15,7 @@ use Rattle.edit_unify.proofs.GroupLemmas.{alike, right}
 use Rattle.edit_unify.proofs.LeaderLemmas.{first_or_rest, has_first, has_more, leader_is, leader_there, none_in, none_is, some_is}
 use Rattle.edit_unify.proofs.UnifyLemmas.{IsTurn, IsTurnBy, both, first_is, rest_is, self_together}
 
-better_alike : (level : Option Level) (a b : Required)
+better_alike : (level : CrateBounds) (a b : Required)
     → ((x : Required) → is_together level a x ≡ is_together level b x) → (best other : Option Required)
     → better level a best other ≡ better level b best other
 better_alike level a b same best None = refl
@@ -23,7 +23,7 @@ better_alike level a b same None (Some other) =
     ap (λ t. if t && true then Some other else None) (same other)
 better_alike level a b same (Some best) (Some other) = cc (same other)
 
-lead_alike : (level : Option Level) (a b : Required)
+lead_alike : (level : CrateBounds) (a b : Required)
     → ((x : Required) → is_together level a x ≡ is_together level b x) → (best : Option Required)
     → (stands : List (Option Required))
     → fold (better level a) best stands ≡ fold (better level b) best stands
@@ -73,7 +73,7 @@ stand_is : (address : Option (List ℕ)) (row : Row) (b : Required) → stand_of
 stand_is address row b is = stands_if (is_left_out row.reason) address row row.new b refl is
 
 -- the leader whose text a row has after its turn
-record HasLed (level : Option Level) (all : List (Option Required)) (b : Required) : Type 0 where
+record HasLed (level : CrateBounds) (all : List (Option Required)) (b : Required) : Type 0 where
   pub own : Required
   pub lead : Required
   pub leads : leader level own all ≡ Some lead
@@ -109,7 +109,7 @@ unless_some true taken text is = absurd (none_is taken (sym is))
 unless_some false taken text is = some_is taken text is
 
 -- a row that keeps its own text has that of its leader
-led_none : (level : Option Level) (all : List (Option Required)) (b : Required) → AreRead all
+led_none : (level : CrateBounds) (all : List (Option Required)) (b : Required) → AreRead all
     → Contains all (Some b) → (first : Option Required) → leader level b all ≡ first
     → None ≡ option_and_then (λ l. unless_same b.text l.text) first → HasLed level all b
 led_none level all b read has None is takes =
@@ -128,7 +128,7 @@ led_none level all b read has (Some l) is takes =
     }
 
 -- a row that takes a text has that of its leader
-led_some : (level : Option Level) (all : List (Option Required)) (address : Option (List ℕ)) (row a : Row)
+led_some : (level : CrateBounds) (all : List (Option Required)) (address : Option (List ℕ)) (row a : Row)
     (taken : List ℕ) (o b : Required) → AreRead all → stand_of address row ≡ Some o
     → stand_of address a ≡ Some b → IsWithText taken row a
     → (first : Option Required) → leader level o all ≡ first
@@ -151,7 +151,7 @@ led_some level all address row a taken o b read own_is b_is with (Some l) is tak
       text_is = text;
     }
 
-led_row : (level : Option Level) (all : List (Option Required)) (address : Option (List ℕ)) (row a : Row)
+led_row : (level : CrateBounds) (all : List (Option Required)) (address : Option (List ℕ)) (row a : Row)
     (taken : Option (String Global)) (b : Required) → AreRead all → Contains all (stand_of address row)
     → IsTurnBy taken row a → stand_of address a ≡ Some b
     → (own : Option Required) → stand_of address row ≡ own
@@ -167,7 +167,7 @@ led_row level all address row a (Some t) b read has turn b_is None own_is takes 
 led_row level all address row a (Some t) b read has turn b_is (Some o) own_is takes =
     led_some level all address row a (string_bytes t) o b read own_is b_is turn (leader level o all) refl takes
 
-led_each : (level : Option Level) (all : List (Option Required))
+led_each : (level : CrateBounds) (all : List (Option Required))
     (addresses : List (Option (List ℕ))) (rows : List Row) (texts : List (Option (String Global)))
     (after : List Row) → AreRead all
     → ((x : Option Required) → Contains (stands_of addresses rows) x → Contains all x)
@@ -189,19 +189,19 @@ led_each level all (d ∷ addresses) (r ∷ rows) (t ∷ texts) (a ∷ after) re
     (first_or_rest (stand_of d a) (Some b) (stands_of addresses after) has)
 
 -- the row of before is together with the one of after
-with_own : (level : Option Level) (all : List (Option Required)) (b : Required) (h : HasLed level all b)
+with_own : (level : CrateBounds) (all : List (Option Required)) (b : Required) (h : HasLed level all b)
     → is_together level h.own b ≡ true
 with_own level all b h =
-    let rest : (is_same_range h.own.caret h.lead.caret && keeps_level level h.own.caret h.lead.caret) ≡ true
+    let kept = keeps_level (level h.own.name) h.own.caret in
+    let rest : (is_same_range h.own.caret h.lead.caret && kept h.lead.caret) ≡ true
     = right (is_same_crate h.own h.lead) _ h.together in
-    subst (λ c. (is_same_crate h.own b && (is_same_range h.own.caret c && keeps_level level h.own.caret c))
-    ≡ true) h.caret_is
+    subst (λ c. (is_same_crate h.own b && (is_same_range h.own.caret c && kept c)) ≡ true) h.caret_is
     (both _ _
     (both _ _ ((bytes_eq-Decides h.own.name b.name).1 h.name_is)
     ((bytes_eq-Decides h.own.address b.address).1 h.address_is)) rest)
 
 -- rows that are together after the turns have one text
-pub one_text : (level : Option Level) (addresses : List (Option (List ℕ))) (rows : List Row)
+pub one_text : (level : CrateBounds) (addresses : List (Option (List ℕ))) (rows : List Row)
     (texts : List (Option (String Global))) (after : List Row)
     → map (option_map string_bytes) texts ≡ taken_texts level (stands_of addresses rows)
     → AllZip IsTurn (zip rows texts) after → HasOneText level addresses after

@@ -8,6 +8,7 @@ use Rattle.std.specs.declared.alloc.Global.{Global}
 use Rattle.std.proofs.lemmas.Bool.Decides.{nat_tests}
 use Rattle.std.proofs.lemmas.Slice.Eq.{bytes_eq-Decides}
 use Rattle.edit_report.specs.declared.row.Row.{Row}
+use Rattle.edit_version.specs.Levels.{CrateBounds}
 use Rattle.edit_version.specs.declared.levels.Level.{Level}
 use Rattle.edit_version.specs.declared.levels.Level.TheVariants as level
 use Rattle.edit_unify.specs.Leaders.{leader}
@@ -42,10 +43,10 @@ keeps_self (Some level.Minor) a = refl
 keeps_self (Some level.Major) a = refl
 
 -- a row is together with itself
-pub self_together : (level : Option Level) (o : Required) → is_together level o o ≡ true
+pub self_together : (level : CrateBounds) (o : Required) → is_together level o o ≡ true
 self_together level o = both _ _
     (both _ _ ((bytes_eq-Decides o.name o.name).1 refl) ((bytes_eq-Decides o.address o.address).1 refl))
-    (both _ _ (same_range_self o.caret) (keeps_self level o.caret))
+    (both _ _ (same_range_self o.caret) (keeps_self (level o.name) o.caret))
 
 -- the row after a turn that takes a text unless it has it
 row_with : (b : Bool) (taken : Option (String Global)) (text : List ℕ) (row a : Row)
@@ -57,7 +58,7 @@ row_with false None text row a is turn = absurd (none_is text is)
 row_with false (Some t) text row a is turn =
     subst (λ xs. IsWithText xs row a) (some_is (string_bytes t) text is) turn
 
-led : (level : Option Level) (all : List (Option Required)) (o : Required) (row a : Row)
+led : (level : CrateBounds) (all : List (Option Required)) (o : Required) (row a : Row)
     (taken : Option (String Global)) → Contains all (Some o) → IsTurnBy taken row a
     → (first : Option Required) → leader level o all ≡ first
     → option_map string_bytes taken ≡ option_and_then (λ l. unless_same o.text l.text) first
@@ -78,7 +79,7 @@ led level all o row a taken has turn (Some l) is takes =
     )
 
 -- one row, with the text that it takes
-unified_one : (level : Option Level) (all : List (Option Required)) (own : Option Required) (row a : Row)
+unified_one : (level : CrateBounds) (all : List (Option Required)) (own : Option Required) (row a : Row)
     (taken : Option (String Global)) → Contains all own
     → option_map string_bytes taken ≡ taken_text level own all → IsTurnBy taken row a
     → IsUnified level all own row a
@@ -97,7 +98,7 @@ pub cons_not : {X : Type 0} (x : X) (xs : List X) → [] ≡ x ∷ xs → ⊥
 cons_not x xs is = cc is
 
 -- each row, with the text that it takes
-pub unified_each : (level : Option Level) (all : List (Option Required))
+pub unified_each : (level : CrateBounds) (all : List (Option Required))
     (addresses : List (Option (List ℕ))) (rows : List Row) (texts : List (Option (String Global)))
     (after : List Row) → length addresses ≡ length rows
     → ((x : Option Required) → Contains (stands_of addresses rows) x → Contains all x)

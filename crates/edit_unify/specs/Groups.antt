@@ -5,7 +5,7 @@ use Rattle.std.specs.Cmp.Lexicographic.{slice_cmp}
 use Rattle.std.specs.Option.{option_cmp}
 use Rattle.std.specs.Ordering.{nat_cmp, ordering_then}
 use Rattle.std.specs.declared.cmp.Ordering.{Ordering}
-use Rattle.edit_version.specs.declared.levels.Level.{Level}
+use Rattle.edit_version.specs.Levels.{CrateBounds}
 use Rattle.edit_unify.specs.Ranges.{Caret, kept_minor, numbers_of, range_of}
 use Rattle.edit_unify.specs.Stands.{Required, stand_view}
 use Rattle.edit_unify.specs.Unified.{unless_same}
@@ -34,8 +34,8 @@ abbrev pub Shared : Type 0
 Shared = CrateAt × Caret × ℕ
 
 -- what a row has in common with those that are together with it
-abbrev pub group_of : Option Level → Required → Shared
-group_of level own = (crate_of own, range_of own.caret, kept_minor level own.caret)
+abbrev pub group_of : CrateBounds → Required → Shared
+group_of level own = (crate_of own, range_of own.caret, kept_minor (level own.name) own.caret)
 
 -- a group of the program's type (own)
 abbrev pub group_view : Group → Shared
@@ -51,12 +51,12 @@ group_cmp a b = ordering_then (crate_cmp a.0 b.0) (ordering_then (caret_cmp a.1 
         (ordering_then (option_cmp nat_cmp x.1 y.1) (option_cmp nat_cmp x.2 y.2))
 
 -- the row that a map has for the group of a row
-abbrev pub best_of : Option Level → BTreeMap Group Stand → Required → Option Required
+abbrev pub best_of : CrateBounds → BTreeMap Group Stand → Required → Option Required
 best_of level leaders own =
     option_map stand_view (get_by (λ g. group_cmp (group_of level own) (group_view g)) leaders)
 
 -- the text that a row takes from the best row of its group; none where it keeps its own
-abbrev pub text_from : Option Level → BTreeMap Group Stand → Option Required → Option (List ℕ)
+abbrev pub text_from : CrateBounds → BTreeMap Group Stand → Option Required → Option (List ℕ)
 text_from level leaders own =
     option_and_then (λ o. option_and_then (λ best. unless_same o.text best.text)
     (best_of level leaders o)) own

@@ -4,7 +4,7 @@ use Rattle.std.specs.Str.{bytes_eq}
 use Rattle.edit_report.specs.declared.row.Reason.{Reason}
 use Rattle.edit_report.specs.declared.row.Reason.TheVariants as reason
 use Rattle.edit_report.specs.declared.row.Row.{Row}
-use Rattle.edit_version.specs.declared.levels.Level.{Level}
+use Rattle.edit_version.specs.Levels.{CrateBounds}
 use Rattle.edit_unify.specs.Ranges.{Caret, caret_of, is_same_range, keeps_level, numbers_of}
 use Rattle.edit_unify.specs.declared.stands.Stand.{Stand}
 
@@ -52,7 +52,7 @@ stands_of addresses rows = []
 abbrev pub is_same_crate : Required → Required → Bool
 is_same_crate a b = bytes_eq a.name b.name && bytes_eq a.address b.address
 
--- two rows require one crate of one registry in one compatible range, within a level of each other
-abbrev pub is_together : Option Level → Required → Required → Bool
+-- two rows require one crate of one registry in one compatible range, within the crate's level of each other
+abbrev pub is_together : CrateBounds → Required → Required → Bool
 is_together level a b =
-    is_same_crate a b && (is_same_range a.caret b.caret && keeps_level level a.caret b.caret)
+    is_same_crate a b && (is_same_range a.caret b.caret && keeps_level (level a.name) a.caret b.caret)

@@ -5,7 +5,7 @@ use Rattle.std.specs.Option.{option_map_or}
 use Rattle.edit_report.specs.declared.row.Change.{Change}
 use Rattle.edit_report.specs.declared.row.Change.TheVariants as change
 use Rattle.edit_report.specs.declared.row.Row.{Row}
-use Rattle.edit_version.specs.declared.levels.Level.{Level}
+use Rattle.edit_version.specs.Levels.{CrateBounds}
 use Rattle.edit_unify.specs.Leaders.{leader}
 use Rattle.edit_unify.specs.Ranges.{is_higher}
 use Rattle.edit_unify.specs.Stands.{Required, is_together, stands_of}
@@ -15,12 +15,12 @@ abbrev pub unless_same : List ℕ → List ℕ → Option (List ℕ)
 unless_same old text = if bytes_eq text old then None else Some text
 
 -- the text that a row takes from another one; none where it keeps its own (own)
-abbrev pub taken_text : Option Level → Option Required → List (Option Required) → Option (List ℕ)
+abbrev pub taken_text : CrateBounds → Option Required → List (Option Required) → Option (List ℕ)
 taken_text level own stands =
     option_and_then (λ o. option_and_then (λ l. unless_same o.text l.text) (leader level o stands)) own
 
 -- the text that each row takes from another one (own)
-abbrev pub taken_texts : Option Level → List (Option Required) → List (Option (List ℕ))
+abbrev pub taken_texts : CrateBounds → List (Option Required) → List (Option (List ℕ))
 taken_texts level stands = map (λ own. taken_text level own stands) stands
 
 -- the kind of change to a text: none where the old requirement has it
@@ -41,7 +41,7 @@ pub record IsWithText (text : List ℕ) (row after : Row) : Type 0 where
   pub reason : after.reason ≡ row.reason
 
 -- the text is that of one of the rows together with this one, and none of these has a higher floor
-pub record IsHighest (level : Option Level) (own : Required) (stands : List (Option Required)) (text : List ℕ)
+pub record IsHighest (level : CrateBounds) (own : Required) (stands : List (Option Required)) (text : List ℕ)
     : Type 0 where
   pub from : Required
   pub among : Contains stands (Some from)
@@ -57,13 +57,13 @@ IsRowWith false text row after = IsWithText text row after
 
 -- a row that takes part has the highest requirement of those together with it, and is as it was where that
 -- is its own; one that takes no part stays
-abbrev pub IsUnified : Option Level → List (Option Required) → Option Required → Row → Row → Type 0
+abbrev pub IsUnified : CrateBounds → List (Option Required) → Option Required → Row → Row → Type 0
 IsUnified level stands None row after = after ≡ row
 IsUnified level stands (Some own) row after =
     (text : List ℕ) × IsHighest level own stands text × IsRowWith (bytes_eq text own.text) text row after
 
 -- each row unified with all those that are together with it, by what it requires itself (own)
-abbrev pub AreEach : Option Level → List (Option Required) → List (Option Required) → List Row → List Row
+abbrev pub AreEach : CrateBounds → List (Option Required) → List (Option Required) → List Row → List Row
     → Type 0
 AreEach level stands [] [] [] = ⊤
 AreEach level stands (own ∷ owns) (row ∷ rows) (a ∷ after) =
@@ -71,11 +71,11 @@ AreEach level stands (own ∷ owns) (row ∷ rows) (a ∷ after) =
 AreEach level stands owns rows after = ⊥
 
 -- one row for each, in order: unified with those that are together with it
-abbrev pub AreUnified : Option Level → List (Option (List ℕ)) → List Row → List Row → Type 0
+abbrev pub AreUnified : CrateBounds → List (Option (List ℕ)) → List Row → List Row → Type 0
 AreUnified level addresses rows after =
     AreEach level (stands_of addresses rows) (stands_of addresses rows) rows after
 
 -- rows that require one crate of one registry in one range, within a level of each other, have one text
-abbrev pub HasOneText : Option Level → List (Option (List ℕ)) → List Row → Type 0
+abbrev pub HasOneText : CrateBounds → List (Option (List ℕ)) → List Row → Type 0
 HasOneText level addresses rows = (a b : Required) → Contains (stands_of addresses rows) (Some a)
     → Contains (stands_of addresses rows) (Some b) → is_together level a b ≡ true → a.text ≡ b.text

@@ -1,11 +1,12 @@
 //! What rows have in common that are together; rows with the same group have one requirement.
 ghost use Rattle.std.specs.Prelude.{◌≡◌};
+ghost use Rattle.edit_version.specs.Levels.{level_of};
 ghost use Rattle.edit_unify.specs.Groups.{crate_of, crate_view, group_of, group_view};
 ghost use Rattle.edit_unify.specs.Stands.{stand_view};
 
 use crate::ranges::{Numbers, kept_minor, range_of};
 use crate::stands::Stand;
-use edit_version::Level;
+use edit_version::Levels;
 
 /// A crate, and the address of its registry.
 #[derive(Clone, Copy, PartialEq, Eq, PartialOrd, Ord)]
@@ -33,12 +34,12 @@ pub(crate) fn crate_of<'a>(stand: &Stand<'a>) -> RegistryCrate<'a>
 }
 
 /// The group of a row.
-pub(crate) fn group_of<'a>(level: Option<Level>, stand: &Stand<'a>) -> Group<'a>
-    ensures { group_view result ≡ group_of level (stand_view stand.now) }
+pub(crate) fn group_of<'a>(levels: Levels<'_>, stand: &Stand<'a>) -> Group<'a>
+    ensures { group_view result ≡ group_of (level_of levels.entry) (stand_view stand.now) }
 {
     Group {
         krate: crate_of(stand),
         range: range_of(stand.numbers),
-        minor: kept_minor(level, stand.numbers),
+        minor: kept_minor(levels.for_crate(stand.name), stand.numbers),
     }
 }

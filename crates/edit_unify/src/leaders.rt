@@ -1,6 +1,7 @@
 //! The requirement that a row takes: that of the row with the highest floor of those together with it.
 ghost use Rattle.std.specs.Prelude.{◌≡◌, IfOk, None, OnOk, Some, map, option_copied, option_map, true};
 ghost use Rattle.std.specs.Option.{option_map_or};
+ghost use Rattle.edit_version.specs.Levels.{level_of};
 ghost use Rattle.edit_unify.specs.Groups.{best_of};
 ghost use Rattle.edit_unify.specs.Leaders.{better, leader};
 ghost use Rattle.edit_unify.specs.Ranges.{is_higher};
@@ -9,7 +10,7 @@ ghost use Rattle.edit_unify.specs.Stands.{Required, stand_view};
 use crate::groups::{Group, group_of};
 use crate::ranges::is_higher;
 use crate::stands::Stand;
-use edit_version::Level;
+use edit_version::Levels;
 use std::alloc::{AllocError, Global};
 use std::collections::BTreeMap;
 
@@ -29,14 +30,15 @@ fn is_better(best: Option<&Stand<'_>>, other: &Stand<'_>) -> bool
 
 /// Makes a row the best one of its group where its floor is higher than those of the rows before it.
 fn add_stand<'a>(
-    level: Option<Level>,
+    levels: Levels<'_>,
     leaders: &mut Leaders<'a>,
     stand: Stand<'a>,
 ) -> Result<(), AllocError>
-    ensures { OnOk result ((own : Required) → best_of level leaders.new own
-        ≡ better level own (best_of level leaders.old own) (Some (stand_view stand.entry))) }
+    ensures { OnOk result ((own : Required) → best_of (level_of levels.entry) leaders.new own
+        ≡ better (level_of levels.entry) own (best_of (level_of levels.entry) leaders.old own)
+        (Some (stand_view stand.entry))) }
 {
-    let group = group_of(level, &stand);
+    let group = group_of(levels, &stand);
     if is_better(leaders.get(&group), &stand) {
         leaders.insert(group, stand)?;
     }
@@ -46,16 +48,16 @@ fn add_stand<'a>(
 /// The first row with the highest floor of each group.
 pub(crate) fn leaders_of<'a>(
     alloc: Global,
-    level: Option<Level>,
+    levels: Levels<'_>,
     stands: &[Option<Stand<'a>>],
 ) -> Result<Leaders<'a>, AllocError>
-    ensures { IfOk result (λ leaders. (own : Required) → best_of level leaders own
-        ≡ leader level own (map (option_map stand_view) stands.now)) }
+    ensures { IfOk result (λ leaders. (own : Required) → best_of (level_of levels.entry) leaders own
+        ≡ leader (level_of levels.entry) own (map (option_map stand_view) stands.now)) }
 {
     let mut leaders = BTreeMap::new(alloc);
     'stands: for stand in stands {
         if let Some(stand) = stand {
-            add_stand(level, &mut leaders, *stand)?;
+            add_stand(levels, &mut leaders, *stand)?;
         }
     }
     Ok(leaders)
@@ -63,11 +65,12 @@ pub(crate) fn leaders_of<'a>(
 
 /// The best row of those that are together with `own`.
 pub(crate) fn leader<'a>(
-    level: Option<Level>,
+    levels: Levels<'_>,
     leaders: &Leaders<'a>,
     own: &Stand<'a>,
 ) -> Option<Stand<'a>>
-    ensures { option_map stand_view result ≡ best_of level leaders.now (stand_view own.now) }
+    ensures { option_map stand_view result
+        ≡ best_of (level_of levels.entry) leaders.now (stand_view own.now) }
 {
-    leaders.get(&group_of(level, own)).copied()
+    leaders.get(&group_of(levels, own)).copied()
 }

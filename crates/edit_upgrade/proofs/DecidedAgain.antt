@@ -8,6 +8,7 @@ use Rattle.semver.specs.Grammar.{IsValid}
 use Rattle.semver.specs.Parse.{Held, Parts, req_of}
 use Rattle.semver.specs.declared.Op.{Op}
 use Rattle.edit_version.specs.Laws.{HasSameOperators}
+use Rattle.edit_version.specs.declared.levels.Level.{Level}
 use Rattle.edit_version.specs.Levels.{versions_within}
 use Rattle.edit_version.specs.Requirement.{Nothing, UpgradeResult, Text, Unread, Unsupported, upgrade_of}
 use Rattle.edit_version.specs.Selection.{IsCompatible, IsLatest, is_admitted, is_offered}
@@ -190,54 +191,54 @@ compatible-row o r m xs old t u far0 near far (Text s) all b e h iscomp islatest
 abbrev stands : Bool → List ℕ → Bool → Option (List ℕ) → Option (List ℕ) → List ℕ
 stands x old b l c = row_text old (first_row x None b l c)
 
--- the versions within the level of the options
-abbrev left : Options → List ℕ → List Parts → List Parts
-left o text xs = versions_within o.level text xs
+-- the versions within a level of a requirement
+abbrev left : Option Level → List ℕ → List Parts → List Parts
+left bound text xs = versions_within bound text xs
 
 -- whichever text the entry got, it stays
-rows : (o : Options) (x r m : Bool) (xs : List Parts) (old : List ℕ) (near0 far0 near far : Option Parts)
+rows : (o : Options) (bound : Option Level) (x r m : Bool) (xs : List Parts) (old : List ℕ) (near0 far0 near far : Option Parts)
     (b : Bool) (l c : Option (List ℕ))
-    → All IsValid xs → IsCompatible old (left o old xs) near0 → IsLatest old (left o old xs) far0
+    → All IsValid xs → IsCompatible old (left bound old xs) near0 → IsLatest old (left bound old xs) far0
     → is_ok (req_of old) ≡ b → some_if (jump o r old) (far_for m old far0 near0) ≡ l
     → some_if o.compatible (near_text old near0) ≡ c
-    → IsCompatible (stands x old b l c) (left o (stands x old b l c) xs) near
-    → IsLatest (stands x old b l c) (left o (stands x old b l c) xs) far
+    → IsCompatible (stands x old b l c) (left bound (stands x old b l c) xs) near
+    → IsLatest (stands x old b l c) (left bound (stands x old b l c) xs) far
     → row_change (stands x old b l c) (row_of o (case_of x r m (stands x old b l c) near far)) ≡ None
-rows o true r m xs old near0 far0 near far b l c all iscomp islatest p q s isnear isfar = refl
-rows o false r m xs old near0 far0 near far false l c all iscomp islatest p q s isnear isfar = rw p refl
-rows o false r m xs old near0 far0 near far true (Some t) c all iscomp islatest p q s isnear isfar =
+rows o bound true r m xs old near0 far0 near far b l c all iscomp islatest p q s isnear isfar = refl
+rows o bound false r m xs old near0 far0 near far false l c all iscomp islatest p q s isnear isfar = rw p refl
+rows o bound false r m xs old near0 far0 near far true (Some t) c all iscomp islatest p q s isnear isfar =
     let u = unless-some (is_too_low m old (newer far0 near0)) (far_text old far0 near0) t
     (some_if-some (jump o r old) (far_for m old far0 near0) t q) in
-    latest-row o r m (left o t xs) old t near0 far0 near far (valid-within o.level t xs all)
-    (latest-left o.level old t near0 far0 xs all islatest u.1) u.1 isnear isfar
-rows o false r m xs old near0 far0 near far true None (Some t) all iscomp islatest p q s isnear isfar =
+    latest-row o r m (left bound t xs) old t near0 far0 near far (valid-within bound t xs all)
+    (latest-left bound old t near0 far0 xs all islatest u.1) u.1 isnear isfar
+rows o bound false r m xs old near0 far0 near far true None (Some t) all iscomp islatest p q s isnear isfar =
     let n = near-some o old t near0 s in
-    let first = subst (λ (y : Option Parts). IsCompatible old (left o old xs) y) n.1 iscomp in
+    let first = subst (λ (y : Option Parts). IsCompatible old (left bound old xs) y) n.1 iscomp in
     let none = subst (λ (y : Option Parts). some_if (jump o r old) (far_for m old far0 y) ≡ None) n.1 q in
     let some = subst (λ (y : Option Parts). some_if o.compatible (near_text old y) ≡ Some t) n.1 s in
-    let same = compatible-same o.level old t n.0 xs all first n.2 in
-    compatible-row o r m (left o old xs) old t n.0 far0 near far
-    (upgrade_of old n.0) (valid-within o.level old xs all) p refl n.2 first islatest none some
+    let same = compatible-same bound old t n.0 xs all first n.2 in
+    compatible-row o r m (left bound old xs) old t n.0 far0 near far
+    (upgrade_of old n.0) (valid-within bound old xs all) p refl n.2 first islatest none some
     (subst (λ (ys : List Parts). IsCompatible t ys near) same isnear)
     (subst (λ (ys : List Parts). IsLatest t ys far) same isfar)
-rows o false r m xs old near0 far0 near far true None None all iscomp islatest p q s isnear isfar =
-    let n : near ≡ near0 = greatest-same (is_admitted old) (left o old xs) near near0 isnear iscomp in
-    let f : far ≡ far0 = greatest-same (is_offered old) (left o old xs) far far0 isfar islatest in
+rows o bound false r m xs old near0 far0 near far true None None all iscomp islatest p q s isnear isfar =
+    let n : near ≡ near0 = greatest-same (is_admitted old) (left bound old xs) near near0 isnear iscomp in
+    let f : far ≡ far0 = greatest-same (is_offered old) (left bound old xs) far far0 isfar islatest in
     stays o false r m old near far
     (ap (λ (y : Option Parts). some_if (jump o r old) (far_for m old y near)) f
     ∙ ap (λ (y : Option Parts). some_if (jump o r old) (far_for m old far0 y)) n ∙ q)
     (ap (λ (y : Option Parts). some_if o.compatible (near_text old y)) n ∙ s)
 
 -- the requirement that an entry got, decided again, stays
-pub again : (o : Options) (x r m : Bool) (xs : List Parts) (old : List ℕ)
+pub again : (o : Options) (bound : Option Level) (x r m : Bool) (xs : List Parts) (old : List ℕ)
     (near0 far0 near far : Option Parts) → All IsValid xs
-    → IsCompatible old (left o old xs) near0 → IsLatest old (left o old xs) far0
+    → IsCompatible old (left bound old xs) near0 → IsLatest old (left bound old xs) far0
     → IsCompatible (decision o (case_of x r m old near0 far0)).new
-    (left o (decision o (case_of x r m old near0 far0)).new xs) near
+    (left bound (decision o (case_of x r m old near0 far0)).new xs) near
     → IsLatest (decision o (case_of x r m old near0 far0)).new
-    (left o (decision o (case_of x r m old near0 far0)).new xs) far
+    (left bound (decision o (case_of x r m old near0 far0)).new xs) far
     → (decision o (case_of x r m (decision o (case_of x r m old near0 far0)).new near far)).change ≡ None
-again o x r m xs old near0 far0 near far all iscomp islatest isnear isfar =
-    rows o x r m xs old near0 far0 near far (is_ok (req_of old))
+again o bound x r m xs old near0 far0 near far all iscomp islatest isnear isfar =
+    rows o bound x r m xs old near0 far0 near far (is_ok (req_of old))
     (some_if (jump o r old) (far_for m old far0 near0)) (some_if o.compatible (near_text old near0))
     all iscomp islatest refl refl refl isnear isfar

@@ -10,7 +10,7 @@ use Rattle.edit_sources.specs.declared.config.Config.{Config}
 use Rattle.edit_version.specs.RustVersions.{numbers_of}
 use Rattle.edit_upgrade.specs.Caches.{CacheView}
 use Rattle.edit_upgrade.specs.Drafts.{ArePlanned, IsDraft, lines_on}
-use Rattle.edit_upgrade.specs.Headline.{IsSettled, KeepsFloor, LatestIsNotLess, Narrows, NeedsAsBefore, Reaches, StaysWithin}
+use Rattle.edit_upgrade.specs.Headline.{IsSettled, KeepsFloor, LatestIsNotLess, Narrows, NeedsAsBefore, Reaches, StaysInLevel}
 use Rattle.edit_metadata.specs.Inputs.{path_of}
 use Rattle.edit_upgrade.specs.Inputs.{EachInput, Setting, below, outputs_at, rows_of, setting_of}
 use Rattle.edit_upgrade.specs.Lines.{line_of}
@@ -143,8 +143,8 @@ module _ (o : Options) (inputs : List Input) (configs : List (Vec Config)) (old 
     latest = all-lines LatestIsNotLess long (λ s bytes lines same k. rows-latest s bytes lines k);
     never_lower = λ on. all-lines KeepsFloor long
         (λ s bytes lines same k. rows-floor s bytes lines (ap (λ (x : Options). x.never_lower) same ∙ on) k);
-    level = all-lines (StaysWithin o.level) long (λ s bytes lines same k.
-        subst (λ (x : Options). All (StaysWithin x.level) lines) same (rows-level s bytes lines k));
+    level = all-lines (StaysInLevel o) long (λ s bytes lines same k.
+        subst (λ (x : Options). All (StaysInLevel x) lines) same (rows-level s bytes lines k));
     fixed_point = all-pending_defined;
     needs = all-needs;
     missing = missing;

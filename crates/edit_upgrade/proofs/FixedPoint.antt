@@ -19,6 +19,7 @@ use Rattle.edit_version.proofs.Outcomes.{valid-version}
 use Rattle.edit_sources.proofs.AddressLemmas.{one_url}
 use Rattle.url.specs.Parts as url
 use Rattle.url.specs.Parts.{serialize}
+use Rattle.edit_upgrade.specs.OptionLevels.{level_in}
 use Rattle.edit_upgrade.specs.Decision.{Case, Outcome, compatible_text, decision, first_row, given, is_too_low, up_to_date, latest_text, left_out, may_jump, newer, row_change, row_of, row_text, text_or, to_compatible, to_latest, unless_old, unread, some_if}
 use Rattle.edit_upgrade.specs.Headline.{HasNoChange}
 use Rattle.edit_upgrade.specs.Inputs.{Setting}
@@ -183,8 +184,8 @@ some-same a b h = cc h
 entry-again : (i : ℕ) (o : Options) (xs : List Parts) (e : RowEntry) (old : List ℕ) (line next : Line)
     (new : List ℕ)
     → requirement_for o e.name ≡ None → All IsValid xs
-    → IsDecided i o (versions_within o.level old xs) e old line → line.new ≡ Some new
-    → IsDecided i o (versions_within o.level new xs) (record e { old = Some new }) new next
+    → IsDecided i o (versions_within (level_in o e.name) old xs) e old line → line.new ≡ Some new
+    → IsDecided i o (versions_within (level_in o e.name) new xs) (record e { old = Some new }) new next
     → next.change ≡ None
 entry-again i o xs e old line next new plain all d n g =
     let x = is_excluded o e.name in
@@ -194,13 +195,13 @@ entry-again i o xs e old line next new plain all d n g =
     = ap (λ (k : Case). (decision o k).new) (case-plain o e old d.near d.far plain) in
     let text : new ≡ first.new
     = some-same new first.new (sym n ∙ ap (λ (l : Line). l.new) d.is ∙ ap (λ (t : List ℕ). Some t) is) in
-    let near = subst (λ (t : List ℕ). IsCompatible t (versions_within o.level t xs) g.near) text
+    let near = subst (λ (t : List ℕ). IsCompatible t (versions_within (level_in o e.name) t xs) g.near) text
     g.compatible in
-    let far = subst (λ (t : List ℕ). IsLatest t (versions_within o.level t xs) g.far) text g.latest in
+    let far = subst (λ (t : List ℕ). IsLatest t (versions_within (level_in o e.name) t xs) g.far) text g.latest in
     ap (λ (l : Line). l.change) g.is
     ∙ ap (λ (k : Case). (decision o k).change) (case-plain o e new g.near g.far plain)
     ∙ ap (λ (t : List ℕ). (decision o (case_of x r o.never_lower t g.near g.far)).change) text
-    ∙ again o x r o.never_lower xs old d.near d.far g.near g.far all d.compatible d.latest near far
+    ∙ again o (level_in o e.name) x r o.never_lower xs old d.near d.far g.near g.far all d.compatible d.latest near far
 
 pub one-named : (e : RowEntry) (named other : Option (List ℕ)) → e.source ≡ at_registry named
     → e.source ≡ at_registry other → named ≡ other
@@ -250,14 +251,14 @@ row-again s e None l m plain h q d g =
 row-again s e (Some old) l m plain h q d g =
     let first = subst (λ (x : Option (List ℕ)). IsRowOver s.input s.options d.versions e x l) q d.decided in
     let valid = offered-valid s e d.versions d.offered in
-    let n = new-by s.input s.options (versions_within s.options.level old d.versions) e old l l.change plain
-    (valid-within s.options.level old d.versions valid) q (h old q) first refl in
+    let n = new-by s.input s.options (versions_within (level_in s.options e.name) old d.versions) e old l l.change plain
+    (valid-within (level_in s.options e.name) old d.versions valid) q (h old q) first refl in
     let next : RowEntry = record e { old = Some n.0 } in
     let row = subst (λ (x : RowEntry). IsRow s x m) n.2 g in
     let same = same-versions s next row.versions d.versions row.offered
     (other-versions (basis_of s) e next d.versions refl refl d.offered) in
     let again = subst (λ (ys : List Parts). IsDecided s.input s.options
-    (versions_within s.options.level n.0 ys) next n.0 m) same row.decided in
+    (versions_within (level_in s.options e.name) n.0 ys) next n.0 m) same row.decided in
     entry-again s.input s.options d.versions e old l m n.0 plain valid first n.1 again
 
 -- all entries, decided on the requirements that their rows left

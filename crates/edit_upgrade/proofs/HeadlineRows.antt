@@ -21,8 +21,9 @@ use Rattle.edit_version.proofs.GreatestEntries.{all-valid}
 use Rattle.edit_version.proofs.LevelLaws.{within-build}
 use Rattle.edit_version.proofs.Orders.{greatest-has}
 use Rattle.edit_sources.specs.Index.{answer_of}
+use Rattle.edit_upgrade.specs.OptionLevels.{level_in}
 use Rattle.edit_upgrade.specs.Decision.{decision, newer, or_else}
-use Rattle.edit_upgrade.specs.Headline.{IsTextOfVersion, KeepsFloor, LatestIsNotLess, Narrows, Reaches, StaysWithin}
+use Rattle.edit_upgrade.specs.Headline.{IsTextOfVersion, KeepsFloor, LatestIsNotLess, Narrows, Reaches, StaysInLevel, StaysWithin}
 use Rattle.edit_upgrade.specs.Inputs.{Setting}
 use Rattle.edit_upgrade.specs.Lookups.{Answer, lookup_at, versions_in}
 use Rattle.edit_upgrade.specs.Records.{RowEntry, row_entries}
@@ -144,31 +145,32 @@ line-floor i o xs e old line on all d =
 
 -- a decided row stays within the level of its options, where each version is within it
 pub line-level : (i : ℕ) (o : Options) (xs : List Parts) (e : RowEntry) (old : List ℕ) (line : Line)
-    → All IsValid xs → All (λ v. is_within o.level old v ≡ true) xs
-    → IsDecided i o xs e old line → StaysWithin o.level line
+    → All IsValid xs → All (λ v. is_within (level_in o e.name) old v ≡ true) xs
+    → IsDecided i o xs e old line → StaysInLevel o line
 line-level i o xs e old line all within d =
     let c = case_for o e old d.near d.far in
-    let there : StaysWithin o.level (line_for i e old d.near d.far (decision o c)) = record {
+    let bound = level_in o e.name in
+    let there : StaysWithin bound (line_for i e old d.near d.far (decision o c)) = record {
       compatible = λ h.
-          let k = compatible-stays o o.level xs c all within d.compatible h in (
+          let k = compatible-stays o bound xs c all within d.compatible h in (
             without_build k.0,
             subst (λ (x : Option Parts). IsTextOfVersion (option_map plain_text x) (without_build k.0))
                 (sym k.2) (plain-version k.0 k.1),
-            within-build o.level old k.0 ∙ k.3,
+            within-build bound old k.0 ∙ k.3,
           );
       latest = λ h.
-          let k = latest-stays o o.level xs c all within d.latest h in (
+          let k = latest-stays o bound xs c all within d.latest h in (
             without_build k.0,
             subst (λ (x : Option Parts). IsTextOfVersion (option_map plain_text (or_else x d.near))
                 (without_build k.0)) (sym k.2) (plain-version k.0 k.1),
-            within-build o.level old k.0 ∙ k.3,
+            within-build bound old k.0 ∙ k.3,
           );
       later = λ h w k. elim h [
-        | inl far ↦ (latest-stays o o.level xs c all within d.latest far).4 w k
-        | inr near ↦ (compatible-stays o o.level xs c all within d.compatible near).4 w k
+        | inl far ↦ (latest-stays o bound xs c all within d.latest far).4 w k
+        | inr near ↦ (compatible-stays o bound xs c all within d.compatible near).4 w k
       ];
     } in
-    subst (StaysWithin o.level) (sym d.is) there
+    subst (StaysInLevel o) (sym d.is) there
 
 -- a decided row's latest version is not less
 pub line-latest : (i : ℕ) (o : Options) (xs : List Parts) (e : RowEntry) (old : List ℕ) (line : Line)
@@ -189,7 +191,7 @@ dashes-latest i o e h = cc h
 dashes-floor : (i : ℕ) (o : Options) (e : RowEntry) → KeepsFloor (dashes i o e)
 dashes-floor i o e h f has = absurd has
 
-dashes-level : (i : ℕ) (o : Options) (e : RowEntry) → StaysWithin o.level (dashes i o e)
+dashes-level : (i : ℕ) (o : Options) (e : RowEntry) → StaysInLevel o (dashes i o e)
 dashes-level i o e = record { compatible = λ h. cc h; latest = λ h. cc h; later = λ h w k. absurd k }
 
 -- ---- all rows
@@ -197,19 +199,19 @@ dashes-level i o e = record { compatible = λ h. cc h; latest = λ h. cc h; late
 -- what holds of each decided row and of each row of dashes holds of a row
 row-has : (i : ℕ) (o : Options) (P : Line → Type 0) → ((e : RowEntry) → P (dashes i o e))
     → ((xs : List Parts) (e : RowEntry) (old : List ℕ) (line : Line) → All IsValid xs
-    → All (λ v. is_within o.level old v ≡ true) xs → IsDecided i o xs e old line → P line)
+    → All (λ v. is_within (level_in o e.name) old v ≡ true) xs → IsDecided i o xs e old line → P line)
     → (xs : List Parts) (e : RowEntry) (old : Option (List ℕ)) (line : Line) → All IsValid xs
     → IsRowOver i o xs e old line → P line
 row-has i o P d f xs e None line all h = subst P (sym h) (d e)
 row-has i o P d f xs e (Some old) line all h =
-    f (versions_within o.level old xs) e old line (valid-within o.level old xs all)
-    (all-within o.level old xs) h
+    let bound = level_in o e.name in
+    f (versions_within bound old xs) e old line (valid-within bound old xs all) (all-within bound old xs) h
 
 -- so it holds of all rows
 all-rows : (s : Setting) (P : Line → Type 0) → ((e : RowEntry) → P (dashes s.input s.options e))
     → ((xs : List Parts) (e : RowEntry) (old : List ℕ) (line : Line) → All IsValid xs
-    → All (λ v. is_within s.options.level old v ≡ true) xs → IsDecided s.input s.options xs e old line
-    → P line)
+    → All (λ v. is_within (level_in s.options e.name) old v ≡ true) xs
+    → IsDecided s.input s.options xs e old line → P line)
     → (es : List RowEntry) (ls : List Line) → AllZip (IsRow s) es ls → All P ls
 all-rows s P d f [] [] h = All-nil P
 all-rows s P d f [] (l ∷ ls) h = absurd h
@@ -253,9 +255,9 @@ rows-floor s bytes lines on h =
 
 -- they stay within the level of the options
 pub rows-level : (s : Setting) (bytes : List ℕ) (lines : List Line) → HasRows s bytes lines
-    → All (StaysWithin s.options.level) lines
+    → All (StaysInLevel s.options) lines
 rows-level s bytes lines h =
-    all-rows s (StaysWithin s.options.level) (dashes-level s.input s.options)
+    all-rows s (StaysInLevel s.options) (dashes-level s.input s.options)
     (λ xs e old line all within d. line-level s.input s.options xs e old line all within d)
     (row_entries (view_at h.form)) lines h.decided
 

@@ -10,6 +10,7 @@ use Rattle.edit_version.specs.VersionOrder.{full_order}
 use Rattle.edit_version.proofs.Greatests.{advanced}
 use Rattle.edit_version.proofs.Orders.{full_total}
 use Rattle.url.specs.Parts.{serialize}
+use Rattle.edit_upgrade.specs.OptionLevels.{level_in}
 use Rattle.edit_upgrade.specs.Decision.{decision}
 use Rattle.edit_upgrade.specs.Inputs.{Setting}
 use Rattle.edit_upgrade.specs.Records.{RowEntry}
@@ -51,7 +52,7 @@ some-line i o xs e old =
 some-row : (i : ℕ) (o : Options) (xs : List Parts) (e : RowEntry) (old : Option (List ℕ))
     → (line : Line) × IsRowOver i o xs e old line
 some-row i o xs e None = (dashes i o e, refl)
-some-row i o xs e (Some old) = some-line i o (versions_within o.level old xs) e old
+some-row i o xs e (Some old) = some-line i o (versions_within (level_in o e.name) old xs) e old
 
 -- an entry with another requirement takes the same versions
 pub other-versions : (b : Basis) (e f : RowEntry) (xs : List Parts) → f.name ≡ e.name → f.source ≡ e.source

@@ -15,6 +15,7 @@ use Rattle.edit_upgrade.specs.Outputs.{HasOutputs}
 use Rattle.edit_upgrade.specs.Rows.{Line}
 use Rattle.edit_upgrade.specs.Upgraded.{HasRows, IsNeededBy}
 use Rattle.edit_upgrade.specs.EntrySelection.{HasOnlyNames}
+use Rattle.edit_upgrade.specs.OptionLevels.{level_in}
 use Rattle.edit_report.specs.declared.row.Change.TheVariants as change
 use Rattle.edit_metadata.specs.declared.input.Input.{Input}
 use Rattle.edit_report.specs.declared.output.Output.{Output}
@@ -88,9 +89,13 @@ pub record StaysWithin (level : Option Level) (line : Line) : Type 0 where
   pub later : (line.change ≡ Some change.Latest) ⊎ (line.change ≡ Some change.Compatible)
       → (w : Parts) → IsWithinOf level line.new w → IsWithinOf level line.old w
 
--- no row leaves the level that the options set
+-- the row stays within the level that the options set for its crate
+abbrev pub StaysInLevel : Options → Line → Type 0
+StaysInLevel o line = StaysWithin (level_in o line.name) line
+
+-- no row leaves the level that the options set for its crate
 abbrev pub KeepsLevel : Options → UpgradePlan → Type 0
-KeepsLevel o p = All (StaysWithin o.level) (map line_of p.rows.items)
+KeepsLevel o p = All (StaysInLevel o) (map line_of p.rows.items)
 
 -- a row without a change
 abbrev pub HasNoChange : Line → Type 0

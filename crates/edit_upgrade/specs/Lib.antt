@@ -18,6 +18,7 @@ pub mod Addresses
 pub mod PairSets
 pub mod Drafts
 pub mod EntrySelection
+pub mod OptionLevels
 pub mod PackageSelection
 pub mod OptionCauses
 pub mod Caches

@@ -13,6 +13,7 @@ use Rattle.edit_sources.specs.declared.config.Config.{Config}
 use Rattle.edit_upgrade.specs.Decision.{Case, Choice, decision, newer, or_else, some_if}
 use Rattle.edit_upgrade.specs.Records.{RowEntry, Source, at_folder, at_registry, at_repository}
 use Rattle.edit_upgrade.specs.EntrySelection.{is_excluded, requirement_for}
+use Rattle.edit_upgrade.specs.OptionLevels.{level_in}
 use Rattle.edit_report.specs.declared.row.Change.{Change}
 use Rattle.edit_upgrade.specs.declared.decision.options.Options.{Options}
 use Rattle.edit_report.specs.declared.row.Reason.{Reason}
@@ -99,10 +100,11 @@ dashes i o e = record {
 }
 
 -- the row of an entry with this requirement or none, over those of these versions that are within the level
--- of the requirement that the options set
+-- of the requirement that the options set for its crate
 abbrev pub IsRowOver : ℕ → Options → List Parts → RowEntry → Option (List ℕ) → Line → Type 0
 IsRowOver i o versions e None line = line ≡ dashes i o e
-IsRowOver i o versions e (Some old) line = IsDecided i o (versions_within o.level old versions) e old line
+IsRowOver i o versions e (Some old) line =
+    IsDecided i o (versions_within (level_in o e.name) old versions) e old line
 
 -- the lookup that an entry needs: at its registry's address, for its name
 pub record Needs (configs : List Config) (e : RowEntry) (address : url.Parts) (name : List ℕ) : Type 0 where

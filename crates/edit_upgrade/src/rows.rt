@@ -8,6 +8,7 @@ ghost use Rattle.edit_version.specs.Requirement.{plain_text};
 ghost use Rattle.edit_version.specs.Selection.{IsCompatible, IsLatest};
 ghost use Rattle.edit_cache.specs.IndexCache.{index_of};
 ghost use Rattle.url.specs.Parts.{serialize};
+ghost use Rattle.edit_upgrade.specs.OptionLevels.{level_in};
 ghost use Rattle.edit_upgrade.specs.Decision.{decision, newer, or_else};
 ghost use Rattle.edit_upgrade.specs.Found.{row_entry_view, source_view};
 ghost use Rattle.edit_upgrade.specs.Lines.{line_of};
@@ -161,17 +162,13 @@ fn row_with(
 ) -> CargoResult<Row>
     ensures ok { IfOk result (λ r. (answer : Option Answer) → IsRankingOf answer (option_copied ranked.entry)
         → IsDecided job.entry.number job.entry.parsed.options.now
-        (versions_within job.entry.parsed.options.now.level (text_in old.now)
-        (versions_in (numbers_in job.entry.input.now.rust_version) answer))
+        (versions_within (level_in job.entry.parsed.options.now (row_entry_view entry.now).name)
+        (text_in old.now) (versions_in (numbers_in job.entry.input.now.rust_version) answer))
         (row_entry_view entry.now) (text_in old.now) (line_of r)) }
     ensures error { IfErr result IsMemory }
 {
-    let pair = version_pair(
-        ranked,
-        old,
-        job.input.rust_version,
-        job.parsed.options.level,
-    );
+    let level = job.parsed.options.level_for(entry.name.as_str());
+    let pair = version_pair(ranked, old, job.input.rust_version, level);
     let row = row_over(alloc, job, entry, old, pair.compatible, pair.latest)?;
     Ok(row)
 }
@@ -243,7 +240,7 @@ fn cached_requirement_row<I: Index>(
     index: &mut IndexCache<I>,
 ) -> CargoResult<Row>
     ensures ok { IfOk result (λ r. IsDecided job.entry.number job.entry.parsed.options.now
-        (versions_within job.entry.parsed.options.now.level old.now
+        (versions_within (level_in job.entry.parsed.options.now (row_entry_view entry.now).name) old.now
         (versions_in (numbers_in job.entry.input.now.rust_version)
         (cached_by index.new (serialize registry.now) (row_entry_view entry.now).name)))
         (row_entry_view entry.now) old.now (line_of r)) }
@@ -253,14 +250,8 @@ fn cached_requirement_row<I: Index>(
 {
     let name = entry.name.as_str();
     let old = Requirement::read(alloc, old)?;
-    index.rank_for(
-        alloc,
-        registry,
-        name,
-        &old,
-        job.input.rust_version,
-        job.parsed.options.level,
-    )?;
+    let level = job.parsed.options.level_for(name);
+    index.rank_for(alloc, registry, name, &old, job.input.rust_version, level)?;
     let ranked = index.cached_ranking(registry, name);
     row_with(alloc, job, entry, &old, ranked)
 }

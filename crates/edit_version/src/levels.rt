@@ -1,6 +1,7 @@
 //! Levels, which bound how far a version may be from the floor of a requirement.
-ghost use Rattle.std.specs.Prelude.{◌≡◌};
-ghost use Rattle.edit_version.specs.Levels.{is_in_bound, is_within};
+ghost use Rattle.std.specs.Prelude.{◌≡◌, find, option_copied, string_bytes};
+ghost use Rattle.std.specs.Str.{bytes_eq};
+ghost use Rattle.edit_version.specs.Levels.{is_in_bound, is_within, level_of};
 ghost use Rattle.edit_version.specs.ReadRequirement.{text_in};
 ghost use Rattle.semver.specs.Identifiers.{parts_of};
 
@@ -17,6 +18,40 @@ pub enum Level {
     Minor,
     /// Each number.
     Major,
+}
+
+/// The level for the entries of one crate.
+#[derive(Debug, Drop)]
+pub struct CrateLevel {
+    pub name: String,
+    pub level: Level,
+}
+
+/// How far upgrades may go: a level for all crates, and levels for single crates, which come before it.
+#[derive(Clone, Copy)]
+pub struct Levels<'a> {
+    pub all: Option<Level>,
+    pub crates: &'a [CrateLevel],
+}
+
+/// The first of these levels that is for a crate; none where there is none.
+fn first_for<'a>(crates: &'a [CrateLevel], name: &str) -> Option<&'a CrateLevel>
+    ensures { option_copied result ≡ find (λ c. bytes_eq (string_bytes c.name) name.now) crates.entry.now }
+{
+    crates.iter().find(|one| one.name.as_str() == name)
+}
+
+impl Levels<'_> {
+    /// The level for a crate: the first one for its name, else the one for all crates.
+    #[tactic(auto, unfolding(crate::specs::Levels::level_of))]
+    pub fn for_crate(self, name: &str) -> Option<Level>
+        ensures { result ≡ level_of self.entry name.now }
+    {
+        match first_for(self.crates, name) {
+            Some(one) => Some(one.level),
+            None => self.all,
+        }
+    }
 }
 
 /// A level, and the comparator that names the floor from which it counts.

@@ -15,7 +15,7 @@ pub mod version;
 pub use candidates::{Candidate, greatest_entry, is_for, is_selectable, read_candidate};
 pub use crate_spec::CrateSpec;
 pub use fetch::IndexVersion;
-pub use levels::{Bound, Level};
+pub use levels::{Bound, CrateLevel, Level, Levels};
 pub use requirement::{
     Requirement, admits, allows_prerelease, cut, read_requirement, upgrade_requirement,
 };

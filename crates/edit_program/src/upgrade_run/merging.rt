@@ -4,7 +4,9 @@ ghost use Rattle.edit_program.specs.Merging.{AreMerged, AreSameRows, IsMerged};
 
 use crate::upgrade_run::upgrade_args::UpgradeArgs;
 use edit_choice::RowChoice;
-use edit_policy::{Choices, GivenChoices, Policy, copy_texts, merge_choices, merge_excluded};
+use edit_policy::{
+    Choices, GivenChoices, Policy, copy_texts, merge_choices, merge_crate_levels, merge_excluded,
+};
 use edit_sources::PublishedBefore;
 use edit_upgrade::Options;
 use std::alloc::{AllocError, Global};
@@ -26,6 +28,7 @@ fn merge_options(
         level: options.level,
     };
     let choices = merge_choices(choices, given, policy);
+    let crate_levels = merge_crate_levels(alloc, options.level, policy)?;
     Ok(Options {
         compatible: choices.compatible,
         incompatible: choices.incompatible,
@@ -38,6 +41,7 @@ fn merge_options(
         recursive: options.recursive,
         verbosity: options.verbosity,
         level: choices.level,
+        crate_levels,
     })
 }
 

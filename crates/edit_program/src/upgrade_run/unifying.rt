@@ -3,6 +3,8 @@ ghost use Rattle.std.specs.Prelude.{◌≡◌, IfErr, IfOk, length, map, option_
 ghost use Rattle.edit_base.specs.Errors.{IsMemory};
 ghost use Rattle.edit_steps.specs.Shared.{HasLists, lists_for};
 ghost use Rattle.edit_steps.specs.Sources.{AreDocuments};
+ghost use Rattle.edit_version.specs.Levels.{level_of};
+ghost use Rattle.edit_upgrade.specs.OptionLevels.{level_in};
 ghost use Rattle.edit_upgrade.specs.Revisions.{AreRowsOf, AreUtf8, HaveAddresses};
 ghost use Rattle.edit_program.specs.Unifying.{IsUnifiedOver, IsUnifiedOrSame};
 
@@ -11,7 +13,7 @@ use edit_base::CargoResult;
 use edit_steps::upgrade_read::{SharedConfigs, Target};
 use edit_unify::unify_rows;
 use edit_upgrade::{UpgradePlan, revised_plan, row_addresses};
-use edit_version::Level;
+use edit_version::Levels;
 use std::alloc::Global;
 
 /// A plan, and the addresses of the registries of its rows where it is unified, else none.
@@ -24,7 +26,7 @@ pub(crate) struct UnifiedPlan {
 /// The plan with the highest requirement of each crate in each compatible range in place of lower ones.
 fn unified_plan(
     alloc: Global,
-    level: Option<Level>,
+    levels: Levels<'_>,
     target: &Target,
     configs: &SharedConfigs,
     plan: UpgradePlan,
@@ -35,8 +37,8 @@ fn unified_plan(
     requires utf8 { AreUtf8 target.now.inputs.items target.now.documents.items }
     requires rows { AreRowsOf target.now.inputs.items plan.rows.items }
     requires resolved { HaveAddresses target.now.inputs.items (lists_for configs.now) }
-    ensures unified { IfOk result (λ u. IsUnifiedOver level target.now.inputs.items (lists_for configs.now)
-        plan u.plan (map (option_map string_bytes) u.addresses.items)) }
+    ensures unified { IfOk result (λ u. IsUnifiedOver (level_of levels.entry) target.now.inputs.items
+        (lists_for configs.now) plan u.plan (map (option_map string_bytes) u.addresses.items)) }
     ensures error { IfErr result IsMemory }
 {
     let Target {
@@ -53,7 +55,7 @@ fn unified_plan(
         missing,
         ..
     } = plan;
-    let rows = unify_rows(alloc, level, rows, &addresses)?;
+    let rows = unify_rows(alloc, levels, rows, &addresses)?;
     let plan = revised_plan(alloc, inputs, documents, rows, looks, warnings, missing)?;
     Ok(UnifiedPlan { plan, addresses })
 }
@@ -72,7 +74,7 @@ pub(crate) fn unify_plan(
     requires utf8 { AreUtf8 target.now.inputs.items target.now.documents.items }
     requires rows { AreRowsOf target.now.inputs.items plan.rows.items }
     requires resolved { HaveAddresses target.now.inputs.items (lists_for configs.now) }
-    ensures unified { IfOk result (λ u. IsUnifiedOrSame args.now.unify args.now.options.level
+    ensures unified { IfOk result (λ u. IsUnifiedOrSame args.now.unify (level_in args.now.options)
         target.now.inputs.items (lists_for configs.now) plan u.plan
         (map (option_map string_bytes) u.addresses.items)) }
     ensures error { IfErr result IsMemory }
@@ -83,5 +85,5 @@ pub(crate) fn unify_plan(
             addresses: Vec::new(alloc),
         });
     }
-    unified_plan(alloc, args.options.level, target, configs, plan)
+    unified_plan(alloc, args.options.levels(), target, configs, plan)
 }

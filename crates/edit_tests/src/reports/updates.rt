@@ -49,6 +49,7 @@ fn options_of(rt: &impl Abort, alloc: Global, flags: &str, arg: &str) -> Options
         verbosity: 0,
         never_lower: false,
         level: None,
+        crate_levels: Vec::new(alloc),
     }
 }
 

@@ -44,6 +44,19 @@ returns-in_err-hold-clause-error c =
     (key_fault OfCrate (tree_in table) (place_in table) (codes "hold") expected.Requirement _ refl
     c.in_err-hold.ensures.error))
 
+pub returns-in_err-level-clause-error : goal.returns-in_err-level-clause-error
+returns-in_err-level-clause-error c =
+    let stop = c.from_residual-in_err-level in
+    let p = err_from_is_err_and stop.result stop.ensures.1 in
+    let crates = c.args.crates.now in
+    let table = c.in-Some.table in
+    let found = rw c.in-Some.is at c.in_ok-table.ensures.found in
+    rw (p.1, p.2)
+    (crate_fault (tree_in table) (tree_in crates) (place_in crates) (place_in table) c.args.name.now _
+    (ap tree_of found.document) found.at
+    (key_fault OfCrate (tree_in table) (place_in table) (codes "level") expected.Level _ refl
+    c.in_err-level.ensures.error))
+
 pub returns-in_err-reason-clause-error : goal.returns-in_err-reason-clause-error
 returns-in_err-reason-clause-error c =
     let stop = c.from_residual-in_err-reason in
@@ -62,7 +75,7 @@ returns-in_default-clause-ok c =
     let crates = c.args.crates.now in
     let none = rw c.in_default.is at c.in_ok-table.ensures.found in
     let said = c.in_ok-unheld_crate.ensures in
-    absent_crate (tree_in crates) (place_in crates) c.args.name.now _ none said.0 said.1 said.2
+    absent_crate (tree_in crates) (place_in crates) c.args.name.now _ none said.0 said.1 said.2 said.3
 
 pub returns-clause-ok : goal.returns-clause-ok
 returns-clause-ok c =
@@ -70,4 +83,4 @@ returns-clause-ok c =
     let found = rw c.in-Some.is at c.in_ok-table.ensures.found in
     crate_at (document_of crates.item) (place_in crates) c.args.name.now c.in-Some.table _ found
     c.check_keys.ensures.there c.in_ok-check_keys.ensures.ok c.in_ok-hold.ensures.ok c.in_ok-hold.ensures.text
-    c.in_ok-reason.ensures.ok c.in_ok-name.ensures.ok
+    c.in_ok-level.ensures.ok c.in_ok-reason.ensures.ok c.in_ok-name.ensures.ok

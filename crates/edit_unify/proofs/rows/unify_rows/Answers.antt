@@ -6,6 +6,7 @@ use Rattle.std.proofs.lemmas.Iterator.Adapters.{YieldsList-from_vec}
 use Rattle.std.proofs.lemmas.Iterator.Consumers.{YieldsList-end}
 use Rattle.std.proofs.lemmas.List.{length-map}
 use Rattle.std.proofs.lemmas.Slice.Zip.{all_zipped_more}
+use Rattle.edit_version.specs.Levels.{level_of}
 use Rattle.edit_unify.specs.Stands.{stands_of}
 use Rattle.edit_unify.specs.Unified.{taken_texts}
 use Rattle.edit_unify.proofs.OneTextLemmas.{one_text}
@@ -42,10 +43,10 @@ returns-clause-rows c =
     let addresses = map (option_map string_bytes) c.args.addresses.now in
     let len : length addresses ≡ length c.args.rows.items =
     length-map c.args.addresses.now (option_map string_bytes) ∙ c.requires in
-    unified_each c.args.level (stands_of addresses c.args.rows.items) addresses c.args.rows.items
+    unified_each (level_of c.args.levels) (stands_of addresses c.args.rows.items) addresses c.args.rows.items
     c.in_ok-texts.texts.items c.rows.unified.items len (λ x has. has)
     (c.in_ok-texts.ensures.texts
-    ∙ ap (λ rows. taken_texts c.args.level (stands_of addresses rows)) c.deref.ensures.value)
+    ∙ ap (λ rows. taken_texts (level_of c.args.levels) (stands_of addresses rows)) c.deref.ensures.value)
     (subst (λ xs. AllZip IsTurn xs c.rows.unified.items) same c.rows.invariant)
 
 pub returns-clause-one : goal.returns-clause-one
@@ -59,8 +60,8 @@ returns-clause-one c =
     let same : c.rows.yielded ≡ zip c.args.rows.items c.in_ok-texts.texts.items =
     sym (pairs_same c.rows.yielded) ∙ t.0 in
     let addresses = map (option_map string_bytes) c.args.addresses.now in
-    one_text c.args.level addresses c.args.rows.items
+    one_text (level_of c.args.levels) addresses c.args.rows.items
     c.in_ok-texts.texts.items c.rows.unified.items
     (c.in_ok-texts.ensures.texts
-    ∙ ap (λ rows. taken_texts c.args.level (stands_of addresses rows)) c.deref.ensures.value)
+    ∙ ap (λ rows. taken_texts (level_of c.args.levels) (stands_of addresses rows)) c.deref.ensures.value)
     (subst (λ xs. AllZip IsTurn xs c.rows.unified.items) same c.rows.invariant)

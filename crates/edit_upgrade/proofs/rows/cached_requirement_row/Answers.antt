@@ -7,6 +7,7 @@ use Rattle.edit_version.specs.RustVersions.{numbers_of}
 use Rattle.edit_cache.specs.IndexCache.{cached_answer_at, ranking_at}
 use Rattle.edit_cache.specs.declared.ranking.Ranked.{Ranked}
 use Rattle.url.specs.Parts.{serialize}
+use Rattle.edit_upgrade.specs.OptionLevels.{level_in}
 use Rattle.edit_upgrade.specs.Found.{row_entry_view}
 use Rattle.edit_upgrade.specs.Lines.{line_of}
 use Rattle.edit_upgrade.specs.Lookups.{Answer, cached_by, versions_in}
@@ -32,10 +33,10 @@ returns-clause-ok g c =
     let named = ap (λ (n : List ℕ). cached_by index address n) c.as_str-name.ensures.value in
     IfOk-weaker _ _ _ (λ r h.
     subst (λ (t : List ℕ). IsDecided input options
-    (versions_within options.level t (versions_in rust (cached_by index address e.name))) e t (line_of r))
+    (versions_within (level_in options e.name) t (versions_in rust (cached_by index address e.name))) e t (line_of r))
     c.in_ok-old.ensures.text
     (subst (λ (a : Option Answer). IsDecided input options
-    (versions_within options.level (text_in c.in_ok-old.old) (versions_in rust a)) e (text_in c.in_ok-old.old)
+    (versions_within (level_in options e.name) (text_in c.in_ok-old.old) (versions_in rust a)) e (text_in c.in_ok-old.old)
     (line_of r)) named (h answer ranking)))
     c.row_with.ensures.ok
 

@@ -10,6 +10,7 @@ use Rattle.edit_steps.specs.Shared.{lists_for}
 use Rattle.edit_unify.specs.Apart.{AreNames, apart_names}
 use Rattle.edit_unify.specs.Stands.{stands_of}
 use Rattle.edit_upgrade.proofs.PlannedLemmas.{failure-has}
+use Rattle.edit_upgrade.specs.OptionLevels.{level_in}
 use Rattle.edit_program.specs.Choosing.{HasMissingRow, IsChosenOrSame}
 use Rattle.edit_program.specs.Revising.{IsRevisionError}
 use Rattle.edit_program.proofs.RevisionLemmas.{plan_rows_of}
@@ -17,7 +18,7 @@ use Rattle.edit_program.proofs.upgrade_run.revising.revise.Goals as goal
 
 pub choose_plan-requires-clause-rows : goal.choose_plan-requires-clause-rows
 choose_plan-requires-clause-rows c =
-    plan_rows_of c.args.args.now.unify c.args.args.now.options.level c.args.target.now.inputs.items
+    plan_rows_of c.args.args.now.unify (level_in c.args.args.now.options) c.args.target.now.inputs.items
     (lists_for c.args.configs.now) c.args.plan c.in_ok-unified.unified.plan
     (map (option_map string_bytes) c.in_ok-unified.unified.addresses.items) c.in_ok-unified.ensures.unified
     c.requires.rows

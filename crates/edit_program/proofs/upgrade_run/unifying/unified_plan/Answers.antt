@@ -7,6 +7,7 @@ use Rattle.edit_report.specs.declared.row.Row.{Row}
 use Rattle.edit_sources.specs.declared.config.Config.{Config}
 use Rattle.edit_steps.specs.Shared.{lists_for}
 use Rattle.edit_unify.specs.Unified.{AreUnified}
+use Rattle.edit_version.specs.Levels.{level_of}
 use Rattle.edit_upgrade.specs.ConfigLists.{AreIndices, chosen_lists}
 use Rattle.edit_upgrade.specs.Revisions.{AreRowsOf, HasRowAddresses, HaveAddresses}
 use Rattle.edit_upgrade.proofs.RevisedRows.{as_many}
@@ -59,7 +60,7 @@ revised_plan-requires-clause-utf8 c =
 pub revised_plan-requires-clause-rows : goal.revised_plan-requires-clause-rows
 revised_plan-requires-clause-rows c =
     subst (λ (xs : List Input). AreRowsOf xs c.in_ok-rows.rows.items) (sym c.deref-6.ensures.value)
-    (unified_rows_of c.args.level (map (option_map string_bytes) c.deref-5.result.now)
+    (unified_rows_of (level_of c.args.levels) (map (option_map string_bytes) c.deref-5.result.now)
     c.args.target.now.inputs.items c.args.plan.rows.items c.in_ok-rows.rows.items c.in_ok-rows.ensures.rows
     c.requires.rows)
 
@@ -70,7 +71,7 @@ returns-clause-unified c =
     c.args.target.now.inputs.items c.deref-3.result.now c.args.configs.now.lists.items c.deref-4.result.now
     c.args.configs.now.which.items (sym c.deref.ensures.value) (sym c.deref-3.ensures.value)
     (sym c.deref-4.ensures.value) c.in_ok-addresses.ensures.addresses in
-    unified_over c.args.level c.args.target.now.inputs.items c.deref-6.result.now (lists_for c.args.configs.now)
+    unified_over (level_of c.args.levels) c.args.target.now.inputs.items c.deref-6.result.now (lists_for c.args.configs.now)
     c.args.plan c.in_ok-plan.plan c.in_ok-rows.rows.items addresses
     (map (option_map string_bytes) c.deref-5.result.now) c.deref-6.ensures.value
     (ap (map (option_map string_bytes)) c.deref-5.ensures.value) are c.in_ok-rows.ensures.rows
