@@ -74,6 +74,14 @@ level = "patch"'
   has Cargo.toml 'dep = "1.0"'
   has Cargo.toml 'other = "0.2.5"'
 }
+row_a_level_of_a_crate() {
+  policy '[package.metadata.cargo-edit]
+incompatible = "allow"
+crates.dep.level = "minor"'
+  run 0 upgrade
+  has Cargo.toml 'dep = "1.2"'
+  has Cargo.toml 'other = "0.3.0"'
+}
 # The age counts back from the time of this run.
 row_an_age() {
   sed -i '/"1.2.3"/s/}$/, "pubtime": "2020-01-01T00:00:00Z"}/' "$room/served/one/3/d/dep"
