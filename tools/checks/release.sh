@@ -1,7 +1,7 @@
 #!/usr/bin/env bash
 # release.sh PROGRAM   release/ is whole, and PROGRAM, which the gate built, is the released one byte for byte where both were
-# made from the same sources. In a copy, a released program of which one byte differs is found by its checksum, and, with
-# a checksum that fits it, by the comparison.
+# made from the same sources by the same toolchain. In a copy, a released program of which one byte differs is found by its
+# checksum, and, with a checksum that fits it, by the comparison.
 set -eu -o pipefail
 export LC_ALL=C
 here=$(cd "$(dirname "$0")/../.." && pwd)
@@ -17,7 +17,7 @@ cd "$room/tree"
 mkdir -p release
 cp "$program" release/cargo-edit
 tools/sources > release/SOURCES
-echo kit > release/TOOLCHAIN
+rt version > release/TOOLCHAIN
 sums() { (cd release && sha256sum cargo-edit SOURCES TOOLCHAIN > SHA256SUMS); }
 says() { # status, text
   local status=0
@@ -33,6 +33,10 @@ printf '\x5a' | dd of=release/cargo-edit bs=1 seek=$((size / 2)) conv=notrunc st
 says 1 'a file of release/ is not the one that its checksum is of'
 sums
 says 1 'the sources do not give the released program'
+# by another toolchain, the program may have other bytes
+echo 'another kit' > release/TOOLCHAIN
+sums
+says 0 'made from the sources as they stand by another kit'
 # newer sources, and a file that went, are seen
 echo '# a line' >> crates.txt
 says 0 'the sources are newer than the released program'
