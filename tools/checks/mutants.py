@@ -1,15 +1,25 @@
-"""Tests the parts of tools/wrong_bodies that need no prover: tools/edits.py, tools/source.py, tools/mutant_files.py."""
+"""Tests the parts of tools/wrong_bodies that need no prover: tools/edits.py, tools/source.py, tools/mutant_files.py,
+tools/contracts_alone.py, and that unchanged functions are proved before changed ones."""
 import collections
+import importlib.machinery
+import importlib.util
 import os
 import sys
 import tempfile
+import types
 import unittest
 
 sys.dont_write_bytecode = True
-sys.path.insert(0, os.path.join(os.path.dirname(os.path.abspath(__file__)), ".."))
+TOOLS = os.path.join(os.path.dirname(os.path.abspath(__file__)), "..")
+sys.path.insert(0, TOOLS)
+from contracts_alone import leave_contracts  # noqa: E402
 from edits import Edit, Report, Unusable, judged  # noqa: E402
 from mutant_files import chosen, without_mutants  # noqa: E402
 from source import Source  # noqa: E402
+
+loader = importlib.machinery.SourceFileLoader("wrong_bodies", os.path.join(TOOLS, "wrong_bodies"))
+wrong_bodies = importlib.util.module_from_spec(importlib.util.spec_from_loader("wrong_bodies", loader))
+loader.exec_module(wrong_bodies)
 
 Crate = collections.namedtuple("Crate", "name folder")
 FILES = {
@@ -133,6 +143,49 @@ class Mutants(unittest.TestCase):
         self.write("src/lib.rt", FILES["src/lib.rt"].replace("pub fn", "fn"))
         os.rmdir(os.path.dirname(edit))
         self.assertEqual(bare("wrong-bodies"), [])
+
+    def read(self, path):
+        with open(os.path.join(self.folder, path), encoding="utf-8") as file:
+            return file.read()
+
+    def test_other_functions_have_their_contracts_alone(self):
+        leave_contracts(self.folder, "a", {"tree::Tree::depth"})
+        self.assertIn("    ensures { result ≡ n }\n{ unreachable!() }", self.read("src/lib.rt"))
+        self.assertEqual(self.read("proofs/count/Proof.antt").split("\n")[-2], "count_spec = ?")
+        self.assertFalse(os.path.exists(os.path.join(self.folder, "proofs/count/Answers.antt")))
+        read = self.read("src/read.rt")
+        self.assertIn("self.depth()", read)
+        self.assertNotIn("self.up()", read)
+        self.assertNotIn("#[cycle", read)
+
+    def tried(self, is_proved, alone):
+        """The trial of a mutant, by recorded checks; `checked` says of each whether it had the mutant."""
+        options = types.SimpleNamespace(proved=False, alone=alone, after=None, warm=False)
+        trial = wrong_bodies.Trial(None, Crate("a", self.folder), [self.write("wrong-bodies/one.edit", COUNT)], options)
+        trial.said, trial.checked = [], []
+        trial.note, trial.is_built = trial.said.append, lambda: True
+
+        def check(room, texts, edits):
+            trial.checked.append(bool(texts))
+            line = OPEN if texts or not is_proved else "fn a::count: no holes"
+            return Report(line + "\n" + ENDED, "a", self.folder)
+
+        trial.check = check
+        return trial.run()
+
+    def test_the_unchanged_function_is_proved_first(self):
+        trial = self.tried(True, False)
+        self.assertEqual((trial.passed, trial.failed, trial.checked), (1, 0, [False, True]))
+        trial = self.tried(False, False)
+        self.assertEqual((trial.passed, trial.failed, trial.checked), (0, 1, [False]))
+        self.assertIn("the unchanged crate is not proved at count", trial.said[0])
+
+    def test_alone_tries_no_mutant(self):
+        trial = self.tried(True, True)
+        self.assertEqual((trial.passed, trial.failed, trial.checked), (1, 0, [False]))
+        trial = self.tried(False, True)
+        self.assertEqual((trial.passed, trial.failed, trial.checked), (0, 1, [False]))
+        self.assertIn("the unchanged crate is not proved at count", trial.said[0])
 
 
 if __name__ == "__main__":
