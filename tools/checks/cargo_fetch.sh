@@ -306,6 +306,14 @@ row_no_folder() {
   missing 'dep, other'
   says "$room/nowhere"
 }
+# A folder of which the system does not say what it is, as a link to itself, is an error of that call.
+row_folder_behind_a_loop() {
+  ln -s loop "$room/loop"
+  sed -i "s,^registry = .*,registry = \"file://$room/loop\"," "$CARGO_HOME/config.toml"
+  run 1 upgrade -n
+  says_once '^Error: Failed to look at a path$'
+  silent 'cannot be had'
+}
 
 # Folders with odd names, no HOME, a relative folder for caches, a link to the script.
 row_odd_names() {
