@@ -89,6 +89,7 @@ const OVER_HALF_BROKEN: &str = "\
 an answer|ranked|b||2.0.0;
 one letter, no line|krate|x||
 a line cut short|ranked|a||30 Invalid index line 2
+a line cut short for krate|krate|a||30 Invalid index line 2
 nothing is kept|shown|a||none
 nor ranked|shown ranking|a||none
 the other answer|shown|b||b 2.0.0.
