@@ -2,7 +2,7 @@
 use Rattle.std.proofs.Common.{◌≡◌, ◌∙◌, ◌<◌, ◌^◌, ◌+◌, ◌++◌, ◌∷◌, Bool, ℕ, List, [], Option, None, Some, true, ap, arith, refl, get_or, inl, inr, length, sym, subst, take}
 use Rattle.std.specs.Global.{Vec}
 use Rattle.std.specs.List.{AllZip}
-use Rattle.std.specs.Prelude.{◌⊎◌, Contains, string_bytes}
+use Rattle.std.specs.Prelude.{◌⊎◌, string_bytes}
 use Rattle.std.proofs.lemmas.List.{take_more}
 use Rattle.std.proofs.lemmas.Slice.Zip.{all_zipped_more}
 use Rattle.edit_base.specs.Errors.{IsMemory}
@@ -14,12 +14,11 @@ use Rattle.edit_manifest.proofs.SearchLemmas.{as_before}
 use Rattle.edit_metadata.proofs.InputLemmas.{reads-on}
 use Rattle.edit_metadata.specs.declared.input.Input.{Input}
 use Rattle.edit_metadata.specs.declared.workspace.Workspace.{Workspace}
-use Rattle.edit_sources.specs.ConfigurationFiles.{ConfigsFail, HasFailed, IsBadConfig}
+use Rattle.edit_sources.specs.ConfigurationFiles.{ConfigsFail, IsBadConfig}
 use Rattle.edit_sources.specs.declared.config.Config.{Config}
 use Rattle.edit_store.specs.Store.{Files, OnlyReads, IsCallError, StoreView, IsRaisedCount}
 use Rattle.edit_steps.specs.RequestView.{RequestView}
-use Rattle.edit_steps.specs.Causes.{HasNoIndex, HasNoTarget, IsFailure, IsReadCause, IsUnconfigured, LacksNamed}
-use Rattle.edit_steps.specs.Causes.IsUnconfigured.{of_input, of_named}
+use Rattle.edit_steps.specs.Causes.{HasNoIndex, HasNoTarget, IsFailure, IsReadCause, LacksNamed, StopsAtInput}
 use Rattle.edit_steps.specs.Named.{AreConfigured, AreGathered, ArePairRead, IsUnreadFile, Pair, PathAndBytes}
 use Rattle.edit_steps.specs.Sources.{AreInputsRead}
 
@@ -50,25 +49,7 @@ refused_before of old mid new e reads bound (inr failed) = inr (failed.0, later 
     later (inl lt) = inl (omega (arith, reads.later, lt))
     later (inr ends) = inr (ends.0, omega (arith, reads.later, bound, ends.1))
 
--- configurations that are not read, before more reads
-pub unconfigured_before : (old mid new : StoreView) (home : Option (List ℕ)) (pair : Pair) (inputs : List Input)
-    (e shown : Error) → OnlyReads mid new → new.faults < 2 ^ 64 → shown ≡ e
-    → IsCallError call.Read old mid e ⊎ (old.tells ≡ true → IsUnconfigured old.file_at home pair inputs e)
-    → IsCallError call.Read old new shown ⊎ (old.tells ≡ true → IsUnconfigured old.file_at home pair inputs shown)
-unconfigured_before old mid new home pair inputs e shown reads bound same why =
-    subst (λ x. IsCallError call.Read old new x
-    ⊎ (old.tells ≡ true → IsUnconfigured old.file_at home pair inputs x)) (sym same) (later why)
-  where
-    later : IsCallError call.Read old mid e ⊎ (old.tells ≡ true → IsUnconfigured old.file_at home pair inputs e)
-        → IsCallError call.Read old new e ⊎ (old.tells ≡ true → IsUnconfigured old.file_at home pair inputs e)
-    later (inl refused) = inl (refused_before call.Read old mid new e reads bound refused)
-    later (inr none) = inr none
-
 -- ---- configurations
-
--- the input at a place is among them
-pub among : {X : Type 0} (xs : List X) (i : ℕ) (x : X) → i < length xs → x ≡ get_or xs i x → Contains xs x
-among xs i x within is = (i, within, sym is)
 
 -- the configurations of one input more
 pub configured_more : (files : Files) (home : Option (List ℕ)) (pair : Pair) (inputs : List Input)
@@ -102,26 +83,6 @@ own_fails F pair tells files manifest home e (inl memory) = inl memory
 own_fails F pair tells files manifest home e (inr (inl failed)) = inr (inl failed)
 own_fails F pair tells files manifest home e (inr (inr fails)) = inr (inr (inr (inr fails)))
 
--- a configuration that is not read: of a file that is named, or of one of the inputs
-pub unconfigured : (old mid new : StoreView) (home : Option (List ℕ)) (pair : Pair) (inputs : List Input)
-    (input : Input) (path : List ℕ) (e : Error) → OnlyReads old mid → path ≡ string_bytes input.path
-    → Contains inputs input
-    → IsMemory e ⊎ (HasFailed mid.faults new.faults e ⊎ (IsUnreadFile pair.first e
-    ⊎ (IsUnreadFile pair.last e ⊎ ConfigsFail mid.tells mid.file_at path home e)))
-    → IsCallError call.Read old new e ⊎ (old.tells ≡ true → IsUnconfigured old.file_at home pair inputs e)
-unconfigured old mid new home pair inputs input path e reads here has (inl memory) = inl (inl memory)
-unconfigured old mid new home pair inputs input path e reads here has (inr (inl failed)) =
-    inl (refused_on call.Read old mid new e reads (inr (failed.is, failed.counted)))
-unconfigured old mid new home pair inputs input path e reads here has (inr (inr (inl first))) =
-    inr (λ t. let (there, is, unread) = unread_there pair.first e first in of_named there (inl is) unread)
-unconfigured old mid new home pair inputs input path e reads here has (inr (inr (inr (inl last)))) =
-    inr (λ t. let (there, is, unread) = unread_there pair.last e last in of_named there (inr is) unread)
-unconfigured old mid new home pair inputs input path e reads here has (inr (inr (inr (inr wrong)))) =
-    inr (λ t. of_input input has
-    (before (λ files. ConfigsFail true files (string_bytes input.path) home e) old mid reads
-    (λ shown. subst (λ at. ConfigsFail true mid.file_at at home e) here
-    (subst (λ b. ConfigsFail b mid.file_at path home e) shown wrong)) t))
-
 -- ---- causes
 
 -- the manifests that are not read
@@ -147,12 +108,12 @@ named_cause current home asking old mid new w inputs e reads read (inr wrong) =
       cause = before (λ files. LacksNamed files current asking e) old mid reads wrong t;
     })))
 
--- a configuration that is not read after them
+-- the first configuration file that is not read after them
 pub config_cause : (current : List ℕ) (home : Option (List ℕ)) (asking : RequestView) (old mid now new : StoreView)
     (w : Option Workspace) (inputs : List Input) (pair : Pair) (e : Error) → OnlyReads old mid
     → OnlyReads mid now → (old.tells ≡ true → AreInputsRead old.file_at current asking w inputs)
     → (mid.tells ≡ true → ArePairRead mid.file_at current asking pair)
-    → IsCallError call.Read now new e ⊎ (now.tells ≡ true → IsUnconfigured now.file_at home pair inputs e)
+    → IsCallError call.Read now new e ⊎ (now.tells ≡ true → StopsAtInput now.file_at home pair inputs e)
     → IsReadCause current home asking old new e
 config_cause current home asking old mid now new w inputs pair e first second read named (inl refused) =
     inl (inr (refused_on call.Read old now new e (reads-on old mid now first second) refused))
@@ -163,7 +124,7 @@ config_cause current home asking old mid now new w inputs pair e first second re
       pair = pair;
       read = read t;
       named = before (λ files. ArePairRead files current asking pair) old mid first named t;
-      cause = before (λ files. IsUnconfigured files home pair inputs e) old now
+      cause = before (λ files. StopsAtInput files home pair inputs e) old now
           (reads-on old mid now first second) wrong t;
     }))))
 

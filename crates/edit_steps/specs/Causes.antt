@@ -1,5 +1,5 @@
 -- The causes of errors of reading the files that an upgrade depends on.
-use Rattle.std.specs.Prelude.{◌≡◌, ◌⊎◌, ◌++◌, ◌∷◌, ℕ, List, Option, Some, None, Contains, string_bytes, true}
+use Rattle.std.specs.Prelude.{◌≡◌, ◌⊎◌, ◌++◌, ◌∷◌, ℕ, List, Option, Some, None, string_bytes, true}
 use Rattle.std.specs.Global.{Vec}
 use Rattle.edit_base.specs.declared.errors.DeviceCall.TheVariants as call
 use Rattle.edit_base.specs.declared.errors.Error.{Error}
@@ -8,7 +8,7 @@ use Rattle.edit_manifest.specs.Loaded.{IsBadManifest}
 use Rattle.edit_manifest.specs.Located.{HasNoManifest, IsManifestPath}
 use Rattle.edit_metadata.specs.declared.input.Input.{Input}
 use Rattle.edit_metadata.specs.declared.workspace.Workspace.{Workspace}
-use Rattle.edit_sources.specs.ConfigurationFiles.{AreConfigs, ConfigsFail, IsBadConfig, StopsAtConfig}
+use Rattle.edit_sources.specs.ConfigurationFiles.{AreConfigs, StopsAtConfig}
 use Rattle.edit_sources.specs.IndexLines.{IsLinesError, lines_of}
 use Rattle.edit_sources.specs.declared.config.Config.{Config}
 use Rattle.edit_steps.specs.Absolute.{IsAbsoluteOf}
@@ -54,16 +54,6 @@ pub data HasNoTarget (files : Files) (current : List ℕ) (asking : RequestView)
       → HasNoTarget files current asking e
   no_workspace : (named : List ℕ) → asking.metadata ≡ Some named → HasNoWorkspace files current named e
       → HasNoTarget files current asking e
-
--- a configuration cannot be read: that of a given file, or one of an input
-pub data IsUnconfigured (files : Files) (home : Option (List ℕ)) (pair : Pair) (inputs : List Input)
-    (e : Error) : Type 0 where
-  of_named : (file : List ℕ × List ℕ) → (pair.first ≡ Some file) ⊎ (pair.last ≡ Some file)
-      → IsBadConfig file e
-      → IsUnconfigured files home pair inputs e
-  of_input : (input : Input) → Contains inputs input
-      → ConfigsFail true files (string_bytes input.path) home e
-      → IsUnconfigured files home pair inputs e
 
 -- why the configurations of a manifest are not read: the file that is named first is malformed; or it was
 -- read and one of the manifest's own is malformed; or all these were read and the file that is named last is
@@ -117,7 +107,8 @@ pub record StopsAtNamed (files : Files) (current : List ℕ) (asking : RequestVi
   pub read : AreInputsRead files current asking workspace inputs
   pub cause : LacksNamed files current asking e
 
--- the manifests were read, and a configuration cannot be read
+-- the manifests and the given configuration files were read, and the first malformed configuration file is
+-- the error
 pub record StopsAtConfigs (files : Files) (current : List ℕ) (home : Option (List ℕ)) (asking : RequestView)
     (e : Error) : Type 0 where
   pub workspace : Option Workspace
@@ -125,7 +116,7 @@ pub record StopsAtConfigs (files : Files) (current : List ℕ) (home : Option (L
   pub pair : Pair
   pub read : AreInputsRead files current asking workspace inputs
   pub named : ArePairRead files current asking pair
-  pub cause : IsUnconfigured files home pair inputs e
+  pub cause : StopsAtInput files home pair inputs e
 
 -- the manifests and their configurations were read, and the index cannot be read
 pub record StopsAtIndex (files : Files) (current : List ℕ) (home : Option (List ℕ)) (asking : RequestView)

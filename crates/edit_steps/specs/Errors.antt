@@ -18,7 +18,7 @@ IsNamedError (Some named) e = e ≡ NoPath
 abbrev pub IsPairError : RequestView → Error → Type 0
 IsPairError asking e = IsNamedError asking.config e ⊎ IsNamedError asking.default_config e
 
--- a configuration file is malformed; the error has its path
+-- a configuration file is malformed; the error names a file
 abbrev pub IsConfigError : Error → Type 0
 IsConfigError e = (path : List ℕ) × IsConfigErrorAt path e
 

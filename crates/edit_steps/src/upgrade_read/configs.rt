@@ -6,7 +6,7 @@ ghost use Rattle.edit_sources.specs.ConfigurationFiles.{ConfigsFail, HasFailed};
 ghost use Rattle.edit_sources.specs.Configured.{given};
 ghost use Rattle.edit_sources.specs.CachedConfigs.{AreCached};
 ghost use Rattle.edit_store.specs.Store.{OnlyReads, IsCallError};
-ghost use Rattle.edit_steps.specs.Causes.{IsUnconfigured, IsUngathered, StopsAtInput};
+ghost use Rattle.edit_steps.specs.Causes.{IsUngathered, StopsAtInput};
 ghost use Rattle.edit_steps.specs.Errors.{IsConfigError};
 ghost use Rattle.edit_steps.specs.Faults.{CountsFault};
 ghost use Rattle.edit_steps.specs.Named.{AreConfigured, AreGathered, IsUnreadFile, pair_of};
@@ -121,11 +121,8 @@ fn read_all<S: Store>(
         (S.view files.old).file_at (given cargo_home.entry) (pair_of named.now) inputs.now (lists_for s)) }
     ensures each { IfOk result (λ s. length s.which.items ≡ length inputs.now) }
     ensures lists { IfOk result HasLists }
-    ensures error { IfErr result (λ e. IsCallError call.Read (S.view files.old) (S.view files.new) e
-        ⊎ ((S.view files.old).tells ≡ true → IsUnconfigured (S.view files.old).file_at
-        (given cargo_home.entry) (pair_of named.now) inputs.now e)) }
     // the configurations of the inputs before the one at fault were read
-    ensures first { IfErr result (λ e. IsCallError call.Read (S.view files.old) (S.view files.new) e
+    ensures error { IfErr result (λ e. IsCallError call.Read (S.view files.old) (S.view files.new) e
         ⊎ ((S.view files.old).tells ≡ true → StopsAtInput (S.view files.old).file_at
         (given cargo_home.entry) (pair_of named.now) inputs.now e)) }
     ensures counted { IfErr result (λ e. CountsFault (S.view files.old) (S.view files.new) e) }
@@ -178,11 +175,8 @@ pub(crate) fn read_configurations<S: Store>(
         (S.view files.old).file_at (given cargo_home.entry) (pair_of named.now) inputs.now (lists_for s)) }
     ensures each { IfOk result (λ s. length s.which.items ≡ length inputs.now) }
     ensures lists { IfOk result HasLists }
-    ensures error { IfErr result (λ r. IsCallError call.Read (S.view files.old) (S.view files.new) r.error
-        ⊎ ((S.view files.old).tells ≡ true → IsUnconfigured (S.view files.old).file_at
-        (given cargo_home.entry) (pair_of named.now) inputs.now r.error)) }
     // the configurations of the inputs before the one at fault were read
-    ensures first { IfErr result (λ r. IsCallError call.Read (S.view files.old) (S.view files.new) r.error
+    ensures error { IfErr result (λ r. IsCallError call.Read (S.view files.old) (S.view files.new) r.error
         ⊎ ((S.view files.old).tells ≡ true → StopsAtInput (S.view files.old).file_at
         (given cargo_home.entry) (pair_of named.now) inputs.now r.error)) }
     ensures counted { IfErr result (λ r. CountsFault (S.view files.old) (S.view files.new) r.error) }

@@ -44,6 +44,7 @@ pub fn read_sources<S: Store>(
         (request_view request.now) s) }
     // and what a plan requires, over any store
     ensures planned { IfOk result MayBePlanned }
+    // of several malformed configuration files the first one is the error
     ensures error { IfErr result (λ r. IsReadCause current.now (given cargo_home.entry)
         (request_view request.now) (S.view files.old) (S.view files.new) r.error) }
     ensures counted { IfErr result (λ r. CountsFault (S.view files.old) (S.view files.new) r.error) }

@@ -5,7 +5,7 @@ use Rattle.std.proofs.lemmas.List.Elements.{All-nil}
 use Rattle.edit_metadata.proofs.InputLemmas.{reads-on}
 use Rattle.edit_sources.specs.Configured.{given}
 use Rattle.edit_steps.specs.Named.{AreConfigured, AreGathered, pair_of}
-use Rattle.edit_steps.proofs.ReadLemmas.{among, before, configured_more, own_fails, since, unconfigured}
+use Rattle.edit_steps.proofs.ReadLemmas.{before, configured_more, own_fails, since}
 use Rattle.edit_steps.proofs.SharedLemmas.{added_listed, each_more}
 use Rattle.edit_steps.specs.Shared.{AddsList, IsListed, IsOfSome, lists_for}
 use Rattle.edit_steps.proofs.ErrorLemmas.{config_error, config_counted, wider}
@@ -15,27 +15,6 @@ use Rattle.edit_steps.proofs.upgrade_read.configs.read_all.Goals as goal
 
 pub returns-in-Err-clause-error : goal.returns-in-Err-clause-error
 returns-in-Err-clause-error g c =
-    let mid = g.S.Store.view c.inputs.files in
-    unconfigured (g.S.Store.view c.args.files.now) mid (g.S.Store.view c.share.new.files)
-    (given c.args.cargo_home) (pair_of c.args.named.now) c.args.inputs.now c.input-item.result c.as_str.result.now
-    c.in-Err.cause c.inputs.invariant.store c.as_str.ensures.value
-    (among c.args.inputs.now c.inputs.input-index c.input-item.result c.inputs-test.true c.input-item.is)
-    (own_fails _ (pair_of c.args.named.now) mid.tells mid.file_at c.as_str.result.now (given c.args.cargo_home)
-    c.in-Err.cause c.in-Err.ensures.error)
-
-pub returns-in-Err-gather-clause-error : goal.returns-in-Err-gather-clause-error
-returns-in-Err-gather-clause-error g c =
-    let old = g.S.Store.view c.args.files.now in
-    let mid = g.S.Store.view c.share.new.files in
-    unconfigured old mid (g.S.Store.view c.gather.new.files) (given c.args.cargo_home)
-    (pair_of c.args.named.now) c.args.inputs.now c.input-item.result c.as_str-in-inputs.result.now c.in-Err-gather.error
-    (reads-on old (g.S.Store.view c.inputs.files) mid c.inputs.invariant.store c.share.ensures.store)
-    c.as_str-in-inputs.ensures.value
-    (among c.args.inputs.now c.inputs.input-index c.input-item.result c.inputs-test.true c.input-item.is)
-    c.in-Err-gather.ensures.error
-
-pub returns-in-Err-clause-first : goal.returns-in-Err-clause-first
-returns-in-Err-clause-first g c =
     let old = g.S.Store.view c.args.files.now in
     let mid = g.S.Store.view c.inputs.files in
     let home = given c.args.cargo_home in
@@ -52,8 +31,8 @@ returns-in-Err-clause-first g c =
     c.as_str.ensures.value c.inputs.invariant.read
     (wider _ _ _ (wider _ _ _ (λ stops both t. stops both.0 t (both.1 t))) c.in-Err.ensures.first)
 
-pub returns-in-Err-gather-clause-first : goal.returns-in-Err-gather-clause-first
-returns-in-Err-gather-clause-first g c =
+pub returns-in-Err-gather-clause-error : goal.returns-in-Err-gather-clause-error
+returns-in-Err-gather-clause-error g c =
     let old = g.S.Store.view c.args.files.now in
     let mid = g.S.Store.view c.share.new.files in
     stops_at_input old mid (g.S.Store.view c.gather.new.files) (AreCached mid c.share.new.cache)

@@ -4,7 +4,7 @@ use Rattle.edit_sources.specs.Configured.{given}
 use Rattle.edit_steps.proofs.ErrorFields.{failure_has}
 use Rattle.edit_store.specs.Store.{OnlyReads, IsCallError}
 use Rattle.edit_steps.specs.RequestView.{request_view}
-use Rattle.edit_steps.specs.Causes.{IsUnconfigured, IsFailure}
+use Rattle.edit_steps.specs.Causes.{IsFailure, StopsAtInput}
 use Rattle.edit_metadata.proofs.InputLemmas.{reads-on}
 use Rattle.edit_steps.proofs.ReadLemmas.{before}
 use Rattle.edit_steps.specs.Named.{AreConfigured, ArePairRead, pair_of}
@@ -46,7 +46,7 @@ returns-in_err-configs-clause-error g c =
     (subst (λ is. IsCallError call.Read (g.S.Store.view c.read_named.new.files)
     (g.S.Store.view c.read_configurations.new.files) c.in_err-configs.field-0.0.error
     ⊎ ((g.S.Store.view c.read_named.new.files).tells ≡ true
-    → IsUnconfigured (g.S.Store.view c.read_named.new.files).file_at (given c.args.cargo_home)
+    → StopsAtInput (g.S.Store.view c.read_named.new.files).file_at (given c.args.cargo_home)
     (pair_of c.in_ok-named.named) is c.in_err-configs.field-0.0.error)) c.deref.ensures.value
     c.in_err-configs.ensures.error))
 
