@@ -18,7 +18,8 @@ use Rattle.edit_upgrade.specs.Upgraded.{IsNeeded}
 use Rattle.edit_upgrade.specs.declared.upgrade.Look.{Look}
 use Rattle.edit_upgrade.specs.declared.upgrade.UpgradePlan.{UpgradePlan}
 use Rattle.edit_store.specs.Store.{StoreView}
-use Rattle.edit_steps.specs.Causes.{IsReadCause}
+use Rattle.edit_steps.specs.Causes.{IsFailure, IsReadCause}
+use Rattle.edit_steps.specs.Errors.{IsSourceError}
 use Rattle.edit_steps.specs.Shared.{lists_for}
 use Rattle.edit_steps.specs.Sources.{AreRead}
 use Rattle.edit_steps.specs.declared.upgrade_read.sources.Sources.{Sources}
@@ -59,9 +60,12 @@ lines_refused o inputs configs plan e planned (inr bad) =
 -- what the words name is not read
 pub unread_cause : (args : UpgradeArgs) (current : List ℕ) (home : Option (List ℕ)) (old new : StoreView)
     (e : Error) → IsReadCause current home (to_manifest_request args) old new e
+    → IsFailure old new e ⊎ IsSourceError current (to_manifest_request args) e
     → IsLookupsCause args current home old new e
-unread_cause args current home old new e (inl failed) = inl failed
-unread_cause args current home old new e (inr wrong) = inr (inr (λ t. inl (wrong t)))
+unread_cause args current home old new e (inl failed) only = inl failed
+unread_cause args current home old new e (inr wrong) (inl failed) = inl failed
+unread_cause args current home old new e (inr wrong) (inr unread) =
+    inr (inr (inl unread, λ t. inl (wrong t)))
 
 -- there is no plan for it
 pub unplanned_cause : (args : UpgradeArgs) (current : List ℕ) (home : Option (List ℕ)) (old new : StoreView)
@@ -70,8 +74,11 @@ pub unplanned_cause : (args : UpgradeArgs) (current : List ℕ) (home : Option (
     → IsMemory e ⊎ IsPlanCause args.options s.target.inputs.items (lists_for s.configs) no_view e
     → IsLookupsCause args current home old new e
 unplanned_cause args current home old new s e read (inl memory) = inl (inl (inl memory))
-unplanned_cause args current home old new s e read (inr wrong) = inr (inr (λ t. inr (record {
-  sources = s;
-  read = read t;
-  cause = wrong;
-})))
+unplanned_cause args current home old new s e read (inr wrong) = inr (inr (
+  inr (record { inputs = s.target.inputs.items; configs = lists_for s.configs; cause = wrong }),
+  λ t. inr (record {
+    sources = s;
+    read = read t;
+    cause = wrong;
+  }),
+))

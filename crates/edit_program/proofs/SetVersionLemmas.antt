@@ -16,6 +16,7 @@ use Rattle.edit_set_version.specs.Selections.{selection_view}
 use Rattle.edit_set_version.specs.declared.plan.SetVersionPlan.{SetVersionPlan}
 use Rattle.edit_metadata.specs.Inputs.{HaveOwnPaths}
 use Rattle.edit_steps.proofs.DistinctPaths.{none_differ, outputs_differ}
+use Rattle.edit_steps.specs.Errors.{IsWorkspaceError}
 use Rattle.edit_steps.specs.Workspaces.{HasNoWorkspace}
 use Rattle.edit_store.specs.Store.{IsCallError, SameFiles, StoreView}
 use Rattle.edit_program.specs.SetVersionCauses.{IsSetVersionCause}
@@ -65,9 +66,12 @@ pub workspace_cause : (args : SetVersionArgs) (current : List ℕ) (old new : St
     → SameFiles old.file_at new.file_at
     → IsCallError call.Read old new e
     ⊎ (old.tells ≡ true → HasNoWorkspace old.file_at current args.metadata_json.now e)
+    → IsCallError call.Read old new e ⊎ IsWorkspaceError e
     → IsSetVersionCause args current old new e
-workspace_cause args current old new e same (inl refused) = inr (same, inl refused)
-workspace_cause args current old new e same (inr wrong) = inr (same, inr (inr (λ t. inl (wrong t))))
+workspace_cause args current old new e same (inl refused) only = inr (same, inl refused)
+workspace_cause args current old new e same (inr wrong) (inl refused) = inr (same, inl refused)
+workspace_cause args current old new e same (inr wrong) (inr unread) =
+    inr (same, inr (inr (inl unread, λ t. inl (wrong t))))
 
 -- a plan that is not made
 pub plan_cause : (args : SetVersionArgs) (current : List ℕ) (old new : StoreView) (w : WorkspaceModel)
@@ -77,10 +81,13 @@ pub plan_cause : (args : SetVersionArgs) (current : List ℕ) (old new : StoreVi
     → IsSetVersionCause args current old new e
 plan_cause args current old new w is e same read cause = inr (
   same,
-  inr (inr (λ t. inr (record {
-    workspace = w;
-    inputs = is;
-    read = read t;
-    cause = cause;
-  }))),
+  inr (inr (
+    inr (record { workspace = w; inputs = is; cause = cause }),
+    λ t. inr (record {
+      workspace = w;
+      inputs = is;
+      read = read t;
+      cause = cause;
+    }),
+  )),
 )

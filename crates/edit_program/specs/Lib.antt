@@ -1,4 +1,5 @@
 pub mod Absent
+pub mod AnyStoreErrors
 pub mod NameLists
 pub mod HeldBackNotes
 pub mod ParsedBound

@@ -10,6 +10,7 @@ use Rattle.edit_set_version.specs.PlanRefused.{IsCauseOf}
 use Rattle.edit_set_version.specs.Selections.{selection_view}
 use Rattle.edit_steps.specs.Workspaces.{HasNoWorkspace}
 use Rattle.edit_store.specs.Store.{Files, IsCallError, SameFiles, StoreView}
+use Rattle.edit_program.specs.AnyStoreErrors.{IsVersionError}
 use Rattle.edit_program.specs.SetVersions.{IsRead}
 use Rattle.edit_program.specs.declared.set_version_run.set_version_args.SetVersionArgs.{SetVersionArgs}
 
@@ -26,11 +27,13 @@ FailsAtSources args current files e =
     HasNoWorkspace files current args.metadata_json.now e ⊎ HasNoPlan args current files e
 
 -- the cause of an error before any write: out of memory, a device error in a read, which is counted, a
--- failed print, or the files
+-- failed print, or, over any store, one of the errors of `set-version`; where the store says what its files
+-- hold, the files have its cause
 abbrev pub IsUnset : SetVersionArgs → List ℕ → StoreView → StoreView → Error → Type 0
 IsUnset args current old new e =
     IsCallError call.Read old new e
-    ⊎ ((e ≡ Unwritten) ⊎ (old.tells ≡ true → FailsAtSources args current old.file_at e))
+    ⊎ ((e ≡ Unwritten)
+    ⊎ (IsVersionError args e × (old.tells ≡ true → FailsAtSources args current old.file_at e)))
 
 -- the cause of an error of `set-version`: out of memory or a device error in a write, or nothing is written
 -- and each file is unchanged

@@ -4,6 +4,7 @@ use Rattle.edit_base.specs.Errors.{IsMemory}
 use Rattle.edit_base.specs.declared.errors.DeviceCall.TheVariants as call
 use Rattle.edit_base.specs.declared.errors.Error.{Error}
 use Rattle.edit_base.specs.declared.errors.Error.TheVariants.{Output as Unwritten}
+use Rattle.edit_program.specs.AnyStoreErrors.{IsLookupsError}
 use Rattle.edit_program.specs.NoIndex.{no_view}
 use Rattle.edit_program.specs.Followed.{HasBadPolicy, IsReady}
 use Rattle.edit_program.specs.LockRead.{HasNoLock}
@@ -90,8 +91,11 @@ HasBadLookupInput args current home files e =
     HasBadSources files current home (to_manifest_request args) e
     ⊎ HasNoPlan args.options (λ s. no_view) (to_manifest_request args) current home files e
 
--- the cause of an error of `looks`: out of memory or a device error, a failed print, or the given files
+-- the cause of an error of `looks`: out of memory or a device error, a failed print, or, over any store, one
+-- of the errors of `looks`; where the store says what its files hold, the given files have its cause
 abbrev pub IsLookupsCause : UpgradeArgs → List ℕ → Option (List ℕ) → StoreView → StoreView → Error → Type 0
 IsLookupsCause args current home old new e =
     IsFailure old new e
-    ⊎ ((e ≡ Unwritten) ⊎ (old.tells ≡ true → HasBadLookupInput args current home old.file_at e))
+    ⊎ ((e ≡ Unwritten)
+    ⊎ (IsLookupsError args current e
+    × (old.tells ≡ true → HasBadLookupInput args current home old.file_at e)))

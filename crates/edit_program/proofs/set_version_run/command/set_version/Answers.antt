@@ -20,7 +20,7 @@ returns-in_err-read-clause-why g c =
     c.from_residual.ensures.1
     (workspace_cause c.args.args.now c.args.current.now (g.S.Store.view c.args.files.now)
     (g.S.Store.view c.read_workspace.new.files) c.in_err-read.field-0.0.error
-    c.in_err-read.ensures.reads.files c.in_err-read.ensures.error)
+    c.in_err-read.ensures.reads.files c.in_err-read.ensures.error c.in_err-read.ensures.only)
 
 pub returns-in_err-plan-clause-why : goal.returns-in_err-plan-clause-why
 returns-in_err-plan-clause-why g c =

@@ -1,9 +1,10 @@
 use Rattle.std.proofs.Common.{subst, sym}
 use Rattle.std.specs.Io.KnownBytes.{Appends}
-use Rattle.std.specs.Prelude.{string_bytes}
+use Rattle.std.specs.Prelude.{◌⊎◌, string_bytes}
 use Rattle.edit_sources.specs.Configured.{given}
 use Rattle.edit_steps.proofs.ErrorFields.{failure_has}
-use Rattle.edit_steps.specs.Causes.{IsReadCause}
+use Rattle.edit_steps.specs.Causes.{IsFailure, IsReadCause}
+use Rattle.edit_steps.specs.Errors.{IsSourceError}
 use Rattle.edit_steps.specs.Sources.{AreRead}
 use Rattle.edit_program.specs.UpgradeCauses.{IsLookupsCause}
 use Rattle.edit_metadata.proofs.InputLemmas.{reads-on}
@@ -22,7 +23,9 @@ returns-in_err-sources-clause-why g c =
     c.from_residual.ensures.1
     (unread_cause args current home old new e.error
     (subst (λ a. IsReadCause current home a old new e.error) c.to_lookup_request.ensures
-    c.in_err-sources.ensures.error))
+    c.in_err-sources.ensures.error)
+    (subst (λ a. IsFailure old new e.error ⊎ IsSourceError current a e.error) c.to_lookup_request.ensures
+    c.in_err-sources.ensures.only))
 
 pub returns-in-Err-clause-why : goal.returns-in-Err-clause-why
 returns-in-Err-clause-why g c =
