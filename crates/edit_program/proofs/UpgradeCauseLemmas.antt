@@ -9,14 +9,14 @@ use Rattle.edit_base.specs.declared.errors.DeviceCall.TheVariants as call
 use Rattle.edit_store.specs.Store.{OnlyReads, SameFiles, StoreView}
 use Rattle.edit_upgrade.specs.declared.upgrade.UpgradePlan.{UpgradePlan}
 use Rattle.edit_steps.proofs.ReadLemmas.{refused_on}
-use Rattle.edit_steps.specs.Causes.{HasNoIndex, IsReadCause}
+use Rattle.edit_steps.specs.Causes.{IsReadCause}
 use Rattle.edit_steps.specs.Shared.{lists_for}
 use Rattle.edit_program.proofs.UpgradeLemmas.{printed_after}
 use Rattle.edit_program.proofs.StagingLemmas.{behind_after}
 use Rattle.edit_program.specs.DeliveryCauses.{IsDeliveryCause, IsStopped}
 use Rattle.edit_program.specs.Delivered.{AreBothWritten}
 use Rattle.edit_program.specs.Delivery.{Delivery}
-use Rattle.edit_program.specs.Followed.{HasBadPolicy, IsReady}
+use Rattle.edit_program.specs.Followed.{HasBadPolicy, HasNoUpgradeIndex, IsReady}
 use Rattle.edit_program.specs.LockRead.{HasNoLock}
 use Rattle.edit_program.specs.UpgradeCauses.{IsUpgradeCause}
 use Rattle.edit_program.specs.Planned.{IsPlanCause, to_manifest_request, upgrade_index}
@@ -52,7 +52,7 @@ pub policy_cause : (HasFields : List ℕ → Type 0) (args : UpgradeArgs) (curre
     → (IsReadCause current home (to_manifest_request args) old new e
     ⊎ (old.tells ≡ true → HasNoLock args.to_lockfile old.file_at current (given args.lock_file) e))
     ⊎ (old.tells ≡ true → HasBadPolicy args current home old.file_at e
-    ⊎ HasNoIndex old.file_at current (given args.index_file) e)
+    ⊎ HasNoUpgradeIndex args current home old.file_at e)
     → IsUpgradeCause HasFields args (run_at current home local old new) e
 policy_cause HasFields args current home local old new e same (inl cause) =
     lock_cause HasFields args current home local old new e same cause

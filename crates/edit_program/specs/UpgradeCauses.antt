@@ -5,7 +5,7 @@ use Rattle.edit_base.specs.declared.errors.DeviceCall.TheVariants as call
 use Rattle.edit_base.specs.declared.errors.Error.{Error}
 use Rattle.edit_base.specs.declared.errors.Error.TheVariants.{Output as Unwritten}
 use Rattle.edit_program.specs.NoIndex.{no_view}
-use Rattle.edit_program.specs.Followed.{HasBadPolicy, IsReady}
+use Rattle.edit_program.specs.Followed.{HasBadPolicy, HasNoUpgradeIndex, IsReady}
 use Rattle.edit_program.specs.LockRead.{HasNoLock}
 use Rattle.edit_sources.specs.Configured.{given}
 use Rattle.edit_sources.specs.Index.{IndexView}
@@ -13,7 +13,7 @@ use Rattle.edit_store.specs.Store.{Files, IsCallError, SameFiles, StoreView}
 use Rattle.edit_upgrade.specs.declared.decision.options.Options.{Options}
 use Rattle.edit_upgrade.specs.declared.upgrade.UpgradePlan.{UpgradePlan}
 use Rattle.edit_steps.specs.RequestView.{RequestView}
-use Rattle.edit_steps.specs.Causes.{HasBadSources, HasNoIndex, IsFailure}
+use Rattle.edit_steps.specs.Causes.{HasBadSources, IsFailure}
 use Rattle.edit_steps.specs.Shared.{lists_for}
 use Rattle.edit_steps.specs.Sources.{AreRead}
 use Rattle.edit_steps.specs.declared.upgrade_read.sources.Sources.{Sources}
@@ -47,7 +47,7 @@ abbrev pub IsUnplanned : UpgradeArgs → List ℕ → Option (List ℕ) → Stor
 IsUnplanned args current home local files e =
     HasNoLock args.to_lockfile files current (given args.lock_file) e
     ⊎ (HasBadSources files current home (to_manifest_request args) e
-    ⊎ ((HasBadPolicy args current home files e ⊎ HasNoIndex files current (given args.index_file) e)
+    ⊎ ((HasBadPolicy args current home files e ⊎ HasNoUpgradeIndex args current home files e)
     ⊎ HasNoUpgradePlan args current home local files e))
 
 -- the given files were read and planned, and a row is chosen that the plan has not

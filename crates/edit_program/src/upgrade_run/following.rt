@@ -9,7 +9,7 @@ ghost use Rattle.edit_steps.specs.Causes.{HasNoIndex, IsReadCause};
 ghost use Rattle.edit_steps.specs.Faults.{CountsFault};
 ghost use Rattle.edit_steps.specs.Sources.{AreDocuments, MayBePlanned};
 ghost use Rattle.edit_store.specs.Store.{IsCallError, OnlyReads};
-ghost use Rattle.edit_program.specs.Followed.{AreForPolicy, AreForRust, AreForVersion, AreOverIndex, HasBadPolicy, HasFaultIn, HasPolicyFault, HasRoot, HasRootFault, IsFollowed, IsFollowing, IsIndexBy, IsParsedFrom, IsPolicyIn, IsReady, IsRootPolicy, IsUnfollowed, with_index};
+ghost use Rattle.edit_program.specs.Followed.{AreForPolicy, AreForRust, AreForVersion, AreOverIndex, HasBadPolicy, HasFaultIn, HasNoUpgradeIndex, HasPolicyFault, HasRoot, HasRootFault, IsFollowed, IsFollowing, IsIndexBy, IsParsedFrom, IsPolicyIn, IsReady, IsRootPolicy, IsUnfollowed, with_index};
 ghost use Rattle.edit_program.specs.LockRead.{HasNoLock};
 ghost use Rattle.edit_program.specs.Planned.{to_manifest_request};
 
@@ -286,7 +286,8 @@ pub(crate) fn read<'a, S: Store>(
         r.error))
         ⊎ ((S.view files.old).tells ≡ true
         → HasBadPolicy args.now current.now (given cargo_home.entry) (S.view files.old).file_at r.error
-        ⊎ HasNoIndex (S.view files.old).file_at current.now (given args.now.index_file) r.error)) }
+        ⊎ HasNoUpgradeIndex args.now current.now (given cargo_home.entry) (S.view files.old).file_at
+        r.error)) }
     ensures counted { IfErr result (λ r. CountsFault (S.view files.old) (S.view files.new) r.error) }
 {
     let own = read_files(alloc, args, current, cargo_home, files)?;
