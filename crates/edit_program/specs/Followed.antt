@@ -125,6 +125,14 @@ pub record AreOverIndex (args : UpgradeArgs) (current : List ℕ) (files : Files
   pub same : r ≡ record before { sources = with_index r.sources.index before.sources }
   pub index : IsIndexBy r.args.published_before args current files r.sources.index
 
+-- what an upgrade with these arguments may depend on over any store: the policy in some files is followed,
+-- over any index
+pub record AreByPolicy (args : UpgradeArgs) (r : Readings) : Type 0 where
+  pub own : ReadFiles
+  pub followed : Readings
+  pub follows : IsFollowing args own followed
+  pub same : r ≡ record followed { sources = with_index r.sources.index followed.sources }
+
 -- the given files and the lock file were read, the policy is followed, and the index was read with the bound
 pub record IsReady (args : UpgradeArgs) (current : List ℕ) (home : Option (List ℕ)) (files : Files)
     (r : Readings) : Type 0 where

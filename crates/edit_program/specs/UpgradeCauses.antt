@@ -24,6 +24,7 @@ use Rattle.edit_program.specs.Upgrading.{IsPlannedFor, IsPlannedTo}
 use Rattle.edit_program.specs.declared.upgrade_run.following.Readings.{Readings}
 use Rattle.edit_program.specs.declared.upgrade_run.upgrade_args.UpgradeArgs.{UpgradeArgs}
 use Rattle.edit_program.specs.DeliveryCauses.{IsStopped}
+use Rattle.edit_program.specs.UpgradeErrors.{IsUpgradeError}
 
 -- the given files were read, and planning over their index fails
 pub record HasNoPlan (options : Options) (view : Sources → IndexView) (request : RequestView)
@@ -75,13 +76,15 @@ IsUnfit Prints args run e =
     run.old.file_at
 
 -- the cause of an error of `upgrade`: out of memory; a device error in a read, and each file is unchanged;
--- one in a write; a failed print; or the given files
+-- one in a write; a failed print; or another error that `upgrade` may return, with its cause in the given
+-- files where the store tells what these hold
 abbrev pub IsUpgradeCause : (List ℕ → Type 0) → UpgradeArgs → Run → Error → Type 0
 IsUpgradeCause Prints args run e =
     IsMemory e
     ⊎ ((SameFiles run.old.file_at run.new.file_at × IsFailure run.old run.new e)
     ⊎ (IsCallError call.Write run.old run.new e
-    ⊎ ((e ≡ Unwritten) ⊎ (run.old.tells ≡ true → IsUnfit Prints args run e))))
+    ⊎ ((e ≡ Unwritten)
+    ⊎ (IsUpgradeError Prints args run e × (run.old.tells ≡ true → IsUnfit Prints args run e)))))
 
 -- the cause in the given files where only lookups are requested: reading them fails, or planning over an
 -- empty index does, as for an invalid name

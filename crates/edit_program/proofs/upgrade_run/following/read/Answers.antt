@@ -3,13 +3,15 @@ use Rattle.std.proofs.lemmas.Result.{IfErr-weaker, IfOk-weaker}
 use Rattle.std.specs.Prelude.{◌⊎◌}
 use Rattle.edit_sources.specs.Configured.{given}
 use Rattle.edit_steps.proofs.ErrorFields.{failure_has}
-use Rattle.edit_steps.specs.Causes.{IsReadCause}
+use Rattle.edit_steps.specs.Causes.{IsFailure, IsReadCause}
 use Rattle.edit_steps.specs.Faults.{CountsFault}
 use Rattle.edit_program.specs.Followed.{HasBadPolicy, HasNoUpgradeIndex}
 use Rattle.edit_program.specs.LockRead.{HasNoLock}
 use Rattle.edit_program.specs.Planned.{to_manifest_request}
 use Rattle.edit_program.proofs.CountLemmas.{fault_before}
 use Rattle.edit_program.proofs.PolicyLemmas.{index_refused, over_before, policy_refused}
+use Rattle.edit_program.proofs.UpgradeErrorLemmas.{file_error, index_error, policy_error}
+use Rattle.edit_program.specs.UpgradeErrors.{IsReadingError}
 use Rattle.edit_program.proofs.upgrade_run.following.read.Goals as goal
 
 pub returns-in_err-own-clause-error : goal.returns-in_err-own-clause-error
@@ -103,3 +105,45 @@ returns-clause-counted g c =
     let new = g.S.Store.view c.over_index.new.files in
     IfErr-weaker c.over_index.result _ _
     (λ r h. fault_before old mid new r.error c.in_ok-own.ensures.store.later h) c.over_index.ensures.counted
+
+pub returns-clause-by_policy : goal.returns-clause-by_policy
+returns-clause-by_policy g c =
+    IfOk-weaker c.over_index.result _ _
+    (λ r h. record {
+      own = c.in_ok-own.own;
+      followed = c.in_ok-readings.readings;
+      follows = c.in_ok-readings.ensures.follows;
+      same = h;
+    }) c.over_index.ensures.same
+
+pub returns-in_err-own-clause-only : goal.returns-in_err-own-clause-only
+returns-in_err-own-clause-only g c =
+    let args = c.args.args.now in
+    let current = c.args.current.now in
+    let old = g.S.Store.view c.args.files.now in
+    let new = g.S.Store.view c.read_files.new.files in
+    let e = c.in_err-own.field-0.0 in
+    failure_has c.from_residual.result e
+    (λ error. IsFailure old new error ⊎ IsReadingError args current error)
+    c.from_residual.ensures.1 (file_error args current old new e.error c.in_err-own.ensures.only)
+
+pub returns-in_err-readings-clause-only : goal.returns-in_err-readings-clause-only
+returns-in_err-readings-clause-only g c =
+    let args = c.args.args.now in
+    let current = c.args.current.now in
+    let old = g.S.Store.view c.args.files.now in
+    let new = g.S.Store.view c.read_files.new.files in
+    let e = c.in_err-readings.field-0.0 in
+    failure_has c.from_residual-in_err-readings.result e
+    (λ error. IsFailure old new error ⊎ IsReadingError args current error)
+    c.from_residual-in_err-readings.ensures.1
+    (policy_error args current old new c.in_ok-own.own.sources.target e.error c.in_err-readings.ensures.error)
+
+pub returns-clause-only : goal.returns-clause-only
+returns-clause-only g c =
+    let old = g.S.Store.view c.args.files.now in
+    let mid = g.S.Store.view c.read_files.new.files in
+    let new = g.S.Store.view c.over_index.new.files in
+    IfErr-weaker c.over_index.result _ _
+    (λ r h. index_error c.args.args.now c.args.current.now old mid new r.error c.in_ok-own.ensures.store h)
+    c.over_index.ensures.only
