@@ -17,6 +17,7 @@ pub mod LookupLemmas
 mod StagingLemmas
 pub mod UpgradeLemmas
 pub mod UpgradeCauseLemmas
+mod UpgradeErrorLemmas
 mod RevisionLemmas
 mod PlannedRowLemmas
 mod RevisedOrderLemmas

@@ -6,6 +6,7 @@ use Rattle.edit_base.specs.Errors.{IsMemory, number_of}
 use Rattle.edit_base.specs.declared.errors.DeviceCall.TheVariants as call
 use Rattle.edit_base.specs.declared.errors.Error.{Error}
 use Rattle.edit_base.specs.declared.errors.Error.TheVariants as error
+use Rattle.edit_lock.specs.Views.{lock_view}
 use Rattle.edit_metadata.specs.Inputs.{HaveOwnPaths}
 use Rattle.edit_metadata.specs.Metadata.{WorkspaceModel}
 use Rattle.edit_metadata.specs.Roots.{IsRoot}
@@ -30,11 +31,12 @@ use Rattle.edit_tree.specs.DocumentViews.{DocumentViews}
 use Rattle.edit_version.specs.declared.rust_version.RustVersion.{RustVersion}
 use Rattle.edit_program.proofs.CountLemmas.{error_counts, memory_counts}
 use Rattle.edit_program.proofs.UpgradeLemmas.{same_workspace}
-use Rattle.edit_program.specs.Followed.{AreForRust, AreOverIndex, HasBadPolicy, HasPolicyFault, HasRoot, IsParsedFrom, IsUnfollowed, with_index}
-use Rattle.edit_program.specs.LockRead.{HasNoLock}
+use Rattle.edit_program.specs.Followed.{AreForRust, AreOverIndex, HasBadPolicy, HasNoUpgradeIndex, HasPolicyFault, HasRoot, IsFollowing, IsParsedFrom, IsUnfollowed, with_index}
+use Rattle.edit_program.specs.LockRead.{HasNoLock, IsLockRead}
 use Rattle.edit_program.specs.Planned.{to_manifest_request}
 use Rattle.edit_program.specs.Reading.{IsRead}
 use Rattle.edit_program.specs.declared.upgrade_run.following.Readings.{Readings}
+use Rattle.edit_program.specs.declared.upgrade_run.reading.ReadFiles.{ReadFiles}
 use Rattle.edit_program.specs.declared.upgrade_run.upgrade_args.UpgradeArgs.{UpgradeArgs}
 
 -- the manifest in the root, where the workspace and the inputs are borrowed
@@ -108,15 +110,18 @@ unfollowed args target e (inr fault) = inr (inl fault)
 
 -- the policy cannot be followed, or memory ran out
 pub policy_refused : (args : UpgradeArgs) (current : List ℕ) (home : Option (List ℕ)) (old new : StoreView)
-    (s : Sources) (e : Error) → (old.tells ≡ true → IsRead args current home old.file_at s)
-    → IsMemory e ⊎ IsUnfollowed args s.target e
+    (own : ReadFiles) (e : Error) → (old.tells ≡ true → IsRead args current home old.file_at own.sources)
+    → (old.tells ≡ true → IsLockRead args.to_lockfile old.file_at current (given args.lock_file)
+    (option_map lock_view own.lock))
+    → IsMemory e ⊎ IsUnfollowed args own.sources.target e
     → (IsReadCause current home (to_manifest_request args) old new e
     ⊎ (old.tells ≡ true → HasNoLock args.to_lockfile old.file_at current (given args.lock_file) e))
     ⊎ (old.tells ≡ true → HasBadPolicy args current home old.file_at e
-    ⊎ HasNoIndex old.file_at current (given args.index_file) e)
-policy_refused args current home old new s e read (inl memory) = inl (inl (inl (inl (inl memory))))
-policy_refused args current home old new s e read (inr fault) =
-    inr (λ t. inl (record { sources = s; read = read t; fault = fault }))
+    ⊎ HasNoUpgradeIndex args current home old.file_at e)
+policy_refused args current home old new own e read locked (inl memory) =
+    inl (inl (inl (inl (inl memory))))
+policy_refused args current home old new own e read locked (inr fault) =
+    inr (λ t. inl (record { own = own; read = read t; locked = locked t; fault = fault }))
 
 -- files may be planned over another index
 pub planned_over : (s t : Sources) (index : IndexSource) → t ≡ with_index index s → MayBePlanned s
@@ -127,18 +132,28 @@ planned_over s t index is may =
 
 -- the index cannot be read
 pub index_refused : (args : UpgradeArgs) (current : List ℕ) (home : Option (List ℕ))
-    (old mid new : StoreView) (e : Error) → OnlyReads old mid
+    (old mid new : StoreView) (own : ReadFiles) (followed : Readings) (e : Error) → OnlyReads old mid
+    → (old.tells ≡ true → IsRead args current home old.file_at own.sources)
+    → (old.tells ≡ true → IsLockRead args.to_lockfile old.file_at current (given args.lock_file)
+    (option_map lock_view own.lock))
+    → IsFollowing args own followed
     → IsCallError call.Read mid new e
     ⊎ (mid.tells ≡ true → HasNoIndex mid.file_at current (given args.index_file) e)
     → (IsReadCause current home (to_manifest_request args) old new e
     ⊎ (old.tells ≡ true → HasNoLock args.to_lockfile old.file_at current (given args.lock_file) e))
     ⊎ (old.tells ≡ true → HasBadPolicy args current home old.file_at e
-    ⊎ HasNoIndex old.file_at current (given args.index_file) e)
-index_refused args current home old mid new e reads (inl refused) =
+    ⊎ HasNoUpgradeIndex args current home old.file_at e)
+index_refused args current home old mid new own followed e reads read locked follows (inl refused) =
     inl (inl (inl (inr (refused_on call.Read old mid new e reads refused))))
-index_refused args current home old mid new e reads (inr wrong) =
-    inr (λ t. inr
-    (before (λ files. HasNoIndex files current (given args.index_file) e) old mid reads wrong t))
+index_refused args current home old mid new own followed e reads read locked follows (inr wrong) =
+    inr (λ t. inr (record {
+      own = own;
+      read = read t;
+      locked = locked t;
+      followed = followed;
+      follows = follows;
+      cause = before (λ files. HasNoIndex files current (given args.index_file) e) old mid reads wrong t;
+    }))
 
 -- readings over an index that was read behind reads
 pub over_before : (args : UpgradeArgs) (current : List ℕ) (old mid : StoreView) (followed r : Readings)

@@ -9,16 +9,17 @@ use Rattle.edit_base.specs.declared.errors.DeviceCall.TheVariants as call
 use Rattle.edit_store.specs.Store.{OnlyReads, SameFiles, StoreView}
 use Rattle.edit_upgrade.specs.declared.upgrade.UpgradePlan.{UpgradePlan}
 use Rattle.edit_steps.proofs.ReadLemmas.{refused_on}
-use Rattle.edit_steps.specs.Causes.{HasNoIndex, IsReadCause}
+use Rattle.edit_steps.specs.Causes.{IsFailure, IsReadCause}
 use Rattle.edit_steps.specs.Shared.{lists_for}
 use Rattle.edit_program.proofs.UpgradeLemmas.{printed_after}
 use Rattle.edit_program.proofs.StagingLemmas.{behind_after}
 use Rattle.edit_program.specs.DeliveryCauses.{IsDeliveryCause, IsStopped}
 use Rattle.edit_program.specs.Delivered.{AreBothWritten}
 use Rattle.edit_program.specs.Delivery.{Delivery}
-use Rattle.edit_program.specs.Followed.{HasBadPolicy, IsReady}
+use Rattle.edit_program.specs.Followed.{AreByPolicy, HasBadPolicy, HasNoUpgradeIndex, IsReady}
 use Rattle.edit_program.specs.LockRead.{HasNoLock}
-use Rattle.edit_program.specs.UpgradeCauses.{IsUpgradeCause}
+use Rattle.edit_program.specs.UpgradeCauses.{IsUnplanned, IsUpgradeCause}
+use Rattle.edit_program.specs.UpgradeErrors.{IsReadingError}
 use Rattle.edit_program.specs.Planned.{IsPlanCause, to_manifest_request, upgrade_index}
 use Rattle.edit_program.specs.Run.{run_at}
 use Rattle.edit_program.specs.Revising.{IsRevisionError}
@@ -26,68 +27,74 @@ use Rattle.edit_program.specs.Upgrading.{IsPathOf, IsPlannedFor, IsRevisedFor, d
 use Rattle.edit_program.specs.declared.upgrade_run.following.Readings.{Readings}
 use Rattle.edit_program.specs.declared.upgrade_run.upgrade_args.UpgradeArgs.{UpgradeArgs}
 
--- what the arguments name is not read
-pub read_cause : (HasFields : List ℕ → Type 0) (args : UpgradeArgs) (current : List ℕ)
-    (home : Option (List ℕ)) (local old new : StoreView) (e : Error) → SameFiles old.file_at new.file_at
-    → IsReadCause current home (to_manifest_request args) old new e
+-- what the arguments name is not read, or the policy cannot be followed: there is an error of reading, with
+-- its cause in the files where the store tells what these hold
+unread : (HasFields : List ℕ → Type 0) (args : UpgradeArgs) (current : List ℕ) (home : Option (List ℕ))
+    (local old new : StoreView) (e : Error) → SameFiles old.file_at new.file_at
+    → IsFailure old new e ⊎ IsReadingError args current e
+    → (old.tells ≡ true → IsUnplanned args current home local old.file_at e)
     → IsUpgradeCause HasFields args (run_at current home local old new) e
-read_cause HasFields args current home local old new e same (inl failed) = inr (inl (same, failed))
-read_cause HasFields args current home local old new e same (inr wrong) =
-    inr (inr (inr (inr (λ t. inl (same, inl (inr (inl (wrong t))))))))
+unread HasFields args current home local old new e same (inl failed) wrong = inr (inl (same, failed))
+unread HasFields args current home local old new e same (inr only) wrong =
+    inr (inr (inr (inr (inl only, λ t. inl (same, inl (wrong t))))))
 
--- nor its lock file
-pub lock_cause : (HasFields : List ℕ → Type 0) (args : UpgradeArgs) (current : List ℕ)
-    (home : Option (List ℕ)) (local old new : StoreView) (e : Error) → SameFiles old.file_at new.file_at
-    → IsReadCause current home (to_manifest_request args) old new e
-    ⊎ (old.tells ≡ true → HasNoLock args.to_lockfile old.file_at current (given args.lock_file) e)
-    → IsUpgradeCause HasFields args (run_at current home local old new) e
-lock_cause HasFields args current home local old new e same (inl cause) =
-    read_cause HasFields args current home local old new e same cause
-lock_cause HasFields args current home local old new e same (inr none) =
-    inr (inr (inr (inr (λ t. inl (same, inl (inl (none t)))))))
-
--- nor can its policy be followed, or its index be read
+-- the lock file, another file or the index is not read, or the policy cannot be followed
 pub policy_cause : (HasFields : List ℕ → Type 0) (args : UpgradeArgs) (current : List ℕ)
     (home : Option (List ℕ)) (local old new : StoreView) (e : Error) → SameFiles old.file_at new.file_at
+    → IsFailure old new e ⊎ IsReadingError args current e
     → (IsReadCause current home (to_manifest_request args) old new e
     ⊎ (old.tells ≡ true → HasNoLock args.to_lockfile old.file_at current (given args.lock_file) e))
     ⊎ (old.tells ≡ true → HasBadPolicy args current home old.file_at e
-    ⊎ HasNoIndex old.file_at current (given args.index_file) e)
+    ⊎ HasNoUpgradeIndex args current home old.file_at e)
     → IsUpgradeCause HasFields args (run_at current home local old new) e
-policy_cause HasFields args current home local old new e same (inl cause) =
-    lock_cause HasFields args current home local old new e same cause
-policy_cause HasFields args current home local old new e same (inr bad) =
-    inr (inr (inr (inr (λ t. inl (same, inl (inr (inr (inl (bad t)))))))))
+policy_cause HasFields args current home local old new e same only (inl (inl (inl failed))) =
+    inr (inl (same, failed))
+policy_cause HasFields args current home local old new e same only (inl (inl (inr wrong))) =
+    unread HasFields args current home local old new e same only (λ t. inr (inl (wrong t)))
+policy_cause HasFields args current home local old new e same only (inl (inr none)) =
+    unread HasFields args current home local old new e same only (λ t. inl (none t))
+policy_cause HasFields args current home local old new e same only (inr bad) =
+    unread HasFields args current home local old new e same only (λ t. inr (inr (inl (bad t))))
 
 -- there is no plan for it
 pub plan_cause : (HasFields : List ℕ → Type 0) (args : UpgradeArgs) (current : List ℕ)
     (home : Option (List ℕ)) (local old new : StoreView) (r : Readings) (e : Error)
-    → SameFiles old.file_at new.file_at
+    → SameFiles old.file_at new.file_at → AreByPolicy args r
     → (old.tells ≡ true → IsReady args current home old.file_at r)
     → IsMemory e ⊎ IsPlanCause r.args.options r.sources.target.inputs.items (lists_for r.sources.configs)
     (upgrade_index r local) e
     → IsUpgradeCause HasFields args (run_at current home local old new) e
-plan_cause HasFields args current home local old new r e same ready (inl memory) = inl memory
-plan_cause HasFields args current home local old new r e same ready (inr wrong) =
-    inr (inr (inr (inr (λ t. inl (
-      same,
-      inl (inr (inr (inr (record { readings = r; ready = ready t; cause = wrong })))),
-    )))))
+plan_cause HasFields args current home local old new r e same by ready (inl memory) = inl memory
+plan_cause HasFields args current home local old new r e same by ready (inr wrong) =
+    inr (inr (inr (inr (
+      inr (inl (record { readings = r; by_policy = by; cause = wrong })),
+      λ t. inl (same, inl (inr (inr (inr (record { readings = r; ready = ready t; cause = wrong }))))),
+    ))))
 
 -- a row is chosen that it has not
 pub revision_cause : (HasFields : List ℕ → Type 0) (args : UpgradeArgs) (current : List ℕ)
     (home : Option (List ℕ)) (local old new : StoreView) (r : Readings) (single : UpgradePlan) (e : Error)
-    → SameFiles old.file_at new.file_at → (old.tells ≡ true → IsReady args current home old.file_at r)
+    → SameFiles old.file_at new.file_at → AreByPolicy args r
+    → (old.tells ≡ true → IsReady args current home old.file_at r)
     → IsPlannedFor r local single
     → IsMemory e ⊎ IsRevisionError r.args r.sources.target.inputs.items (lists_for r.sources.configs) single e
     → IsUpgradeCause HasFields args (run_at current home local old new) e
-revision_cause HasFields args current home local old new r single e same ready planned (inl memory) =
+revision_cause HasFields args current home local old new r single e same by ready planned (inl memory) =
     inl memory
-revision_cause HasFields args current home local old new r single e same ready planned (inr missing) =
-    inr (inr (inr (inr (λ t. inl (
-      same,
-      inr (record { readings = r; single = single; ready = ready t; planned = planned; missing = missing }),
-    )))))
+revision_cause HasFields args current home local old new r single e same by ready planned (inr missing) =
+    inr (inr (inr (inr (
+      inr (inr (inl (record {
+        readings = r;
+        single = single;
+        by_policy = by;
+        planned = planned;
+        missing = missing;
+      }))),
+      λ t. inl (
+        same,
+        inr (record { readings = r; single = single; ready = ready t; planned = planned; missing = missing }),
+      ),
+    ))))
 
 -- a plan is not carried out behind reads
 stopped_later : (HasFields : List ℕ → Type 0) (d : Delivery) (old mid new : StoreView) (e : Error)
@@ -105,29 +112,44 @@ stopped_later HasFields d old mid new e reads (inr lacks) = inr (
 pub stop_cause : (HasFields : List ℕ → Type 0) (args : UpgradeArgs) (current : List ℕ)
     (home : Option (List ℕ)) (local old mid new : StoreView) (r : Readings) (single plan : UpgradePlan)
     (apart : List (List ℕ)) (path : Option (List ℕ)) (e : Error)
-    → OnlyReads old mid
+    → OnlyReads old mid → AreByPolicy args r
     → (old.tells ≡ true → IsReady args current home old.file_at r) → IsPlannedFor r local single
     → IsRevisedFor r single plan apart
     → IsPathOf current (given args.update_calls) path
     → IsDeliveryCause HasFields (delivery_for r current plan apart path) mid new e
     → IsUpgradeCause HasFields args (run_at current home local old new) e
-stop_cause HasFields args current home local old mid new r single plan apart path e reads ready planned
+stop_cause HasFields args current home local old mid new r single plan apart path e reads by ready planned
     revised at (inl refused) =
     inr (inr (inl (refused_on call.Write old mid new e reads refused)))
-stop_cause HasFields args current home local old mid new r single plan apart path e reads ready planned
+stop_cause HasFields args current home local old mid new r single plan apart path e reads by ready planned
     revised at (inr (inl unwritten)) =
     inr (inr (inr (inl unwritten)))
-stop_cause HasFields args current home local old mid new r single plan apart path e reads ready planned
+stop_cause HasFields args current home local old mid new r single plan apart path e reads by ready planned
     revised at (inr (inr stopped)) =
-    inr (inr (inr (inr (λ t. inr (record {
-      readings = r;
-      single = single;
-      plan = plan;
-      apart = apart;
-      path = path;
-      ready = ready t;
-      planned = planned;
-      revised = revised;
-      at = at;
-      ends = stopped_later HasFields (delivery_for r current plan apart path) old mid new e reads stopped;
-    })))))
+    let ends = stopped_later HasFields (delivery_for r current plan apart path) old mid new e reads stopped in
+    inr (inr (inr (inr (
+      inr (inr (inr (record {
+        readings = r;
+        single = single;
+        plan = plan;
+        apart = apart;
+        path = path;
+        by_policy = by;
+        planned = planned;
+        revised = revised;
+        at = at;
+        stopped = ends;
+      }))),
+      λ t. inr (record {
+        readings = r;
+        single = single;
+        plan = plan;
+        apart = apart;
+        path = path;
+        ready = ready t;
+        planned = planned;
+        revised = revised;
+        at = at;
+        ends = ends;
+      }),
+    ))))

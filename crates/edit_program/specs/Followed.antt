@@ -14,6 +14,7 @@ use Rattle.edit_policy.specs.declared.error.PolicyError.{PolicyError}
 use Rattle.edit_policy.specs.declared.policy.Policy.{Policy}
 use Rattle.edit_sources.specs.Configured.{given}
 use Rattle.edit_sources.specs.declared.published.PublishedBefore.{PublishedBefore}
+use Rattle.edit_steps.specs.Causes.{HasNoIndex}
 use Rattle.edit_steps.specs.Sources.{IsIndexOf}
 use Rattle.edit_steps.specs.declared.upgrade_read.index.IndexSource.{IndexSource}
 use Rattle.edit_steps.specs.declared.upgrade_read.source_request.RustChoice.{RustChoice}
@@ -124,6 +125,14 @@ pub record AreOverIndex (args : UpgradeArgs) (current : List ℕ) (files : Files
   pub same : r ≡ record before { sources = with_index r.sources.index before.sources }
   pub index : IsIndexBy r.args.published_before args current files r.sources.index
 
+-- what an upgrade with these arguments may depend on over any store: the policy in some files is followed,
+-- over any index
+pub record AreByPolicy (args : UpgradeArgs) (r : Readings) : Type 0 where
+  pub own : ReadFiles
+  pub followed : Readings
+  pub follows : IsFollowing args own followed
+  pub same : r ≡ record followed { sources = with_index r.sources.index followed.sources }
+
 -- the given files and the lock file were read, the policy is followed, and the index was read with the bound
 pub record IsReady (args : UpgradeArgs) (current : List ℕ) (home : Option (List ℕ)) (files : Files)
     (r : Readings) : Type 0 where
@@ -135,9 +144,23 @@ pub record IsReady (args : UpgradeArgs) (current : List ℕ) (home : Option (Lis
   pub follows : IsFollowing args own followed
   pub over : AreOverIndex args current files followed r
 
--- the given files were read, and the policy of the manifest in the root cannot be followed
+-- the given files and the lock file were read, and the policy of the manifest in the root cannot be followed
 pub record HasBadPolicy (args : UpgradeArgs) (current : List ℕ) (home : Option (List ℕ)) (files : Files)
     (e : Error) : Type 0 where
-  pub sources : Sources
-  pub read : IsRead args current home files sources
-  pub fault : IsUnfollowed args sources.target e
+  pub own : ReadFiles
+  pub read : IsRead args current home files own.sources
+  pub locked : IsLockRead args.to_lockfile files current (given args.lock_file)
+      (option_map lock_view own.lock)
+  pub fault : IsUnfollowed args own.sources.target e
+
+-- the given files and the lock file were read, the policy is followed, and the given index file cannot be
+-- read
+pub record HasNoUpgradeIndex (args : UpgradeArgs) (current : List ℕ) (home : Option (List ℕ)) (files : Files)
+    (e : Error) : Type 0 where
+  pub own : ReadFiles
+  pub read : IsRead args current home files own.sources
+  pub locked : IsLockRead args.to_lockfile files current (given args.lock_file)
+      (option_map lock_view own.lock)
+  pub followed : Readings
+  pub follows : IsFollowing args own followed
+  pub cause : HasNoIndex files current (given args.index_file) e

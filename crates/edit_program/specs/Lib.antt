@@ -19,6 +19,7 @@ pub mod LookupLines
 pub mod Needed
 pub mod NoIndex
 pub mod UpgradeCauses
+pub mod UpgradeErrors
 pub mod PrintedLookups
 pub mod Planned
 pub mod Reading

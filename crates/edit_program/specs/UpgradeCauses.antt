@@ -6,7 +6,7 @@ use Rattle.edit_base.specs.declared.errors.Error.{Error}
 use Rattle.edit_base.specs.declared.errors.Error.TheVariants.{Output as Unwritten}
 use Rattle.edit_program.specs.AnyStoreErrors.{IsLookupsError}
 use Rattle.edit_program.specs.NoIndex.{no_view}
-use Rattle.edit_program.specs.Followed.{HasBadPolicy, IsReady}
+use Rattle.edit_program.specs.Followed.{HasBadPolicy, HasNoUpgradeIndex, IsReady}
 use Rattle.edit_program.specs.LockRead.{HasNoLock}
 use Rattle.edit_sources.specs.Configured.{given}
 use Rattle.edit_sources.specs.Index.{IndexView}
@@ -14,7 +14,7 @@ use Rattle.edit_store.specs.Store.{Files, IsCallError, SameFiles, StoreView}
 use Rattle.edit_upgrade.specs.declared.decision.options.Options.{Options}
 use Rattle.edit_upgrade.specs.declared.upgrade.UpgradePlan.{UpgradePlan}
 use Rattle.edit_steps.specs.RequestView.{RequestView}
-use Rattle.edit_steps.specs.Causes.{HasBadSources, HasNoIndex, IsFailure}
+use Rattle.edit_steps.specs.Causes.{HasBadSources, IsFailure}
 use Rattle.edit_steps.specs.Shared.{lists_for}
 use Rattle.edit_steps.specs.Sources.{AreRead}
 use Rattle.edit_steps.specs.declared.upgrade_read.sources.Sources.{Sources}
@@ -25,6 +25,7 @@ use Rattle.edit_program.specs.Upgrading.{IsPlannedFor, IsPlannedTo}
 use Rattle.edit_program.specs.declared.upgrade_run.following.Readings.{Readings}
 use Rattle.edit_program.specs.declared.upgrade_run.upgrade_args.UpgradeArgs.{UpgradeArgs}
 use Rattle.edit_program.specs.DeliveryCauses.{IsStopped}
+use Rattle.edit_program.specs.UpgradeErrors.{IsUpgradeError}
 
 -- the given files were read, and planning over their index fails
 pub record HasNoPlan (options : Options) (view : Sources → IndexView) (request : RequestView)
@@ -48,7 +49,7 @@ abbrev pub IsUnplanned : UpgradeArgs → List ℕ → Option (List ℕ) → Stor
 IsUnplanned args current home local files e =
     HasNoLock args.to_lockfile files current (given args.lock_file) e
     ⊎ (HasBadSources files current home (to_manifest_request args) e
-    ⊎ ((HasBadPolicy args current home files e ⊎ HasNoIndex files current (given args.index_file) e)
+    ⊎ ((HasBadPolicy args current home files e ⊎ HasNoUpgradeIndex args current home files e)
     ⊎ HasNoUpgradePlan args current home local files e))
 
 -- the given files were read and planned, and a row is chosen that the plan has not
@@ -76,13 +77,15 @@ IsUnfit Prints args run e =
     run.old.file_at
 
 -- the cause of an error of `upgrade`: out of memory; a device error in a read, and each file is unchanged;
--- one in a write; a failed print; or the given files
+-- one in a write; a failed print; or another error that `upgrade` may return, with its cause in the given
+-- files where the store tells what these hold
 abbrev pub IsUpgradeCause : (List ℕ → Type 0) → UpgradeArgs → Run → Error → Type 0
 IsUpgradeCause Prints args run e =
     IsMemory e
     ⊎ ((SameFiles run.old.file_at run.new.file_at × IsFailure run.old run.new e)
     ⊎ (IsCallError call.Write run.old run.new e
-    ⊎ ((e ≡ Unwritten) ⊎ (run.old.tells ≡ true → IsUnfit Prints args run e))))
+    ⊎ ((e ≡ Unwritten)
+    ⊎ (IsUpgradeError Prints args run e × (run.old.tells ≡ true → IsUnfit Prints args run e)))))
 
 -- the cause in the given files where only lookups are requested: reading them fails, or planning over an
 -- empty index does, as for an invalid name

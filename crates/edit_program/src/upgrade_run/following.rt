@@ -5,13 +5,15 @@ ghost use Rattle.edit_base.specs.declared.errors.DeviceCall.TheVariants as call;
 ghost use Rattle.edit_metadata.specs.declared.input.Input.{Input};
 ghost use Rattle.edit_policy.specs.Manifests.{IsManifestFault, IsManifestPolicy};
 ghost use Rattle.edit_sources.specs.Configured.{given};
-ghost use Rattle.edit_steps.specs.Causes.{HasNoIndex, IsReadCause};
+ghost use Rattle.edit_steps.specs.Causes.{HasNoIndex, IsFailure, IsReadCause};
+ghost use Rattle.edit_steps.specs.Errors.{IsIndexError};
 ghost use Rattle.edit_steps.specs.Faults.{CountsFault};
 ghost use Rattle.edit_steps.specs.Sources.{AreDocuments, MayBePlanned};
 ghost use Rattle.edit_store.specs.Store.{IsCallError, OnlyReads};
-ghost use Rattle.edit_program.specs.Followed.{AreForPolicy, AreForRust, AreForVersion, AreOverIndex, HasBadPolicy, HasFaultIn, HasPolicyFault, HasRoot, HasRootFault, IsFollowed, IsFollowing, IsIndexBy, IsParsedFrom, IsPolicyIn, IsReady, IsRootPolicy, IsUnfollowed, with_index};
+ghost use Rattle.edit_program.specs.Followed.{AreByPolicy, AreForPolicy, AreForRust, AreForVersion, AreOverIndex, HasBadPolicy, HasFaultIn, HasNoUpgradeIndex, HasPolicyFault, HasRoot, HasRootFault, IsFollowed, IsFollowing, IsIndexBy, IsParsedFrom, IsPolicyIn, IsReady, IsRootPolicy, IsUnfollowed, with_index};
 ghost use Rattle.edit_program.specs.LockRead.{HasNoLock};
 ghost use Rattle.edit_program.specs.Planned.{to_manifest_request};
+ghost use Rattle.edit_program.specs.UpgradeErrors.{IsReadingError};
 
 use crate::upgrade_run::merging::merge_args;
 use crate::upgrade_run::policy_age::policy_bound;
@@ -210,6 +212,9 @@ fn with_index<S: Store>(
         ⊎ ((S.view files.old).tells ≡ true
         → HasNoIndex (S.view files.old).file_at current.now (given args.now.index_file) r.error)) }
     ensures counted { IfErr result (λ r. CountsFault (S.view files.old) (S.view files.new) r.error) }
+    // over any store
+    ensures only { IfErr result (λ r. IsCallError call.Read (S.view files.old) (S.view files.new) r.error
+        ⊎ IsIndexError (given args.now.index_file) r.error) }
 {
     let read = read_index(
         alloc,
@@ -241,6 +246,8 @@ fn over_index<'a, S: Store>(
     files: &mut S,
 ) -> RunResult<Readings<'a>>
     ensures store { OnlyReads (S.view files.old) (S.view files.new) }
+    ensures same { IfOk result (λ r.
+        r ≡ record readings.entry { sources = with_index r.sources.index readings.entry.sources }) }
     ensures index { IfOk result (λ r. (S.view files.old).tells ≡ true
         → AreOverIndex args.now current.now (S.view files.old).file_at readings.entry r) }
     ensures planned { MayBePlanned readings.entry.sources → IfOk result (λ r. MayBePlanned r.sources) }
@@ -248,6 +255,9 @@ fn over_index<'a, S: Store>(
         ⊎ ((S.view files.old).tells ≡ true
         → HasNoIndex (S.view files.old).file_at current.now (given args.now.index_file) r.error)) }
     ensures counted { IfErr result (λ r. CountsFault (S.view files.old) (S.view files.new) r.error) }
+    // over any store
+    ensures only { IfErr result (λ r. IsCallError call.Read (S.view files.old) (S.view files.new) r.error
+        ⊎ IsIndexError (given args.now.index_file) r.error) }
 {
     let Readings {
         sources,
@@ -277,6 +287,8 @@ pub(crate) fn read<'a, S: Store>(
     ensures store { OnlyReads (S.view files.old) (S.view files.new) }
     ensures ready { IfOk result (λ r. (S.view files.old).tells ≡ true
         → IsReady args.now current.now (given cargo_home.entry) (S.view files.old).file_at r) }
+    // and what holds over any store
+    ensures by_policy { IfOk result (AreByPolicy args.now) }
     ensures planned { IfOk result (λ r. MayBePlanned r.sources) }
     ensures error { IfErr result (λ r.
         (IsReadCause current.now (given cargo_home.entry) (to_manifest_request args.now)
@@ -286,8 +298,12 @@ pub(crate) fn read<'a, S: Store>(
         r.error))
         ⊎ ((S.view files.old).tells ≡ true
         → HasBadPolicy args.now current.now (given cargo_home.entry) (S.view files.old).file_at r.error
-        ⊎ HasNoIndex (S.view files.old).file_at current.now (given args.now.index_file) r.error)) }
+        ⊎ HasNoUpgradeIndex args.now current.now (given cargo_home.entry) (S.view files.old).file_at
+        r.error)) }
     ensures counted { IfErr result (λ r. CountsFault (S.view files.old) (S.view files.new) r.error) }
+    // over any store
+    ensures only { IfErr result (λ r. IsFailure (S.view files.old) (S.view files.new) r.error
+        ⊎ IsReadingError args.now current.now r.error) }
 {
     let own = read_files(alloc, args, current, cargo_home, files)?;
     let readings = follow_policy(alloc, args, own)?;

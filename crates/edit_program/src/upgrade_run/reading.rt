@@ -4,13 +4,14 @@ ghost use Rattle.edit_base.specs.declared.errors.DeviceCall.TheVariants as call;
 ghost use Rattle.edit_base.specs.declared.errors.Error.TheVariants.{NoPath};
 ghost use Rattle.edit_lock.specs.Views.{lock_view};
 ghost use Rattle.edit_sources.specs.Configured.{given};
-ghost use Rattle.edit_steps.specs.Causes.{IsReadCause};
+ghost use Rattle.edit_steps.specs.Causes.{IsFailure, IsReadCause};
 ghost use Rattle.edit_steps.specs.Faults.{CountsFault};
 ghost use Rattle.edit_steps.specs.Sources.{MayBePlanned};
 ghost use Rattle.edit_store.specs.Store.{OnlyReads, IsCallError};
 ghost use Rattle.edit_program.specs.LockRead.{HasNoLock, IsLockAt, IsLockRead};
 ghost use Rattle.edit_program.specs.Planned.{to_manifest_request};
 ghost use Rattle.edit_program.specs.Reading.{IsRead};
+ghost use Rattle.edit_program.specs.UpgradeErrors.{IsFileError, IsLockFileError};
 
 use crate::upgrade_run::upgrade_args::UpgradeArgs;
 use edit_base::Error;
@@ -54,6 +55,9 @@ fn read_lock_at<S: Store>(
         ⊎ ((S.view files.old).tells ≡ true
         → HasNoLock required (S.view files.old).file_at current.now (Some named.now) r.error)) }
     ensures counted { IfErr result (λ r. CountsFault (S.view files.old) (S.view files.new) r.error) }
+    // over any store
+    ensures only { IfErr result (λ r. IsCallError call.Read (S.view files.old) (S.view files.new) r.error
+        ⊎ IsLockFileError required (Some named.now) r.error) }
 {
     let path = absolute_path(alloc, current, named)?;
     let bytes = match files.read(alloc, path.as_str()) {
@@ -83,6 +87,9 @@ fn read_lock<S: Store>(
         ⊎ ((S.view files.old).tells ≡ true
         → HasNoLock required (S.view files.old).file_at current.now (given named.entry) r.error)) }
     ensures counted { IfErr result (λ r. CountsFault (S.view files.old) (S.view files.new) r.error) }
+    // over any store
+    ensures only { IfErr result (λ r. IsCallError call.Read (S.view files.old) (S.view files.new) r.error
+        ⊎ IsLockFileError required (given named.entry) r.error) }
 {
     let Some(named) = named else {
         return Ok(None);
@@ -115,6 +122,9 @@ pub(crate) fn read_files<S: Store>(
         → HasNoLock args.now.to_lockfile (S.view files.old).file_at current.now (given args.now.lock_file)
         r.error)) }
     ensures counted { IfErr result (λ r. CountsFault (S.view files.old) (S.view files.new) r.error) }
+    // over any store
+    ensures only { IfErr result (λ r. IsFailure (S.view files.old) (S.view files.new) r.error
+        ⊎ IsFileError args.now current.now r.error) }
 {
     let lock = read_lock(alloc, args.lock_file, args.to_lockfile, current, files)?;
     let sources = read_sources(

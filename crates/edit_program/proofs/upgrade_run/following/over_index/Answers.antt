@@ -4,6 +4,7 @@ use Rattle.edit_base.specs.declared.errors.DeviceCall.TheVariants as call
 use Rattle.edit_sources.specs.Configured.{given}
 use Rattle.edit_steps.proofs.ErrorFields.{failure_has}
 use Rattle.edit_steps.specs.Causes.{HasNoIndex}
+use Rattle.edit_steps.specs.Errors.{IsIndexError}
 use Rattle.edit_steps.specs.Faults.{CountsFault}
 use Rattle.edit_steps.specs.declared.upgrade_read.sources.Sources.{Sources}
 use Rattle.edit_store.specs.Store.{IsCallError}
@@ -38,3 +39,15 @@ pub returns-clause-planned : goal.returns-clause-planned
 returns-clause-planned g c =
     λ may. planned_over c.args.readings.sources c.in_ok-sources.sources c.in_ok-sources.sources.index
     c.in_ok-sources.ensures.same may
+
+pub returns-in_err-sources-clause-only : goal.returns-in_err-sources-clause-only
+returns-in_err-sources-clause-only g c =
+    let old = g.S.Store.view c.args.files.now in
+    let new = g.S.Store.view c.with_index.new.files in
+    failure_has c.from_residual.result c.in_err-sources.field-0.0
+    (λ error. IsCallError call.Read old new error ⊎ IsIndexError (given c.args.args.now.index_file) error)
+    c.from_residual.ensures.1 c.in_err-sources.ensures.only
+
+pub returns-clause-same : goal.returns-clause-same
+returns-clause-same g c =
+    ap (λ (s : Sources). record c.args.readings { sources = s }) c.in_ok-sources.ensures.same

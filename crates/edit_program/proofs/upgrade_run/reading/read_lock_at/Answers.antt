@@ -1,4 +1,4 @@
-use Rattle.std.proofs.Common.{◌≡◌, ℕ, List, None, Option, Some, inr, refl, rules, subst, sym, true}
+use Rattle.std.proofs.Common.{◌≡◌, ℕ, List, None, Option, Some, inl, inr, refl, rules, subst, sym, true}
 use Rattle.std.proofs.lemmas.Result.{IfErr-weaker, IfOk-weaker}
 use Rattle.std.specs.Prelude.{◌⊎◌}
 use Rattle.edit_base.specs.Errors.{IsMemory}
@@ -9,6 +9,7 @@ use Rattle.edit_steps.specs.Absolute.{IsAbsoluteOf}
 use Rattle.edit_program.specs.LockRead.{AreLocked, IsLockError}
 use Rattle.edit_program.proofs.CountLemmas.{error_counts}
 use Rattle.edit_program.proofs.LockLemmas.{bad_lock}
+use Rattle.edit_program.proofs.UpgradeErrorLemmas.{malformed_lock}
 use Rattle.edit_program.proofs.upgrade_run.reading.read_lock_at.Goals as goal
 
 pub returns-clause-error : goal.returns-clause-error
@@ -56,3 +57,17 @@ pub returns-in-Ok-None-clause-counted : goal.returns-in-Ok-None-clause-counted
 returns-in-Ok-None-clause-counted g c =
     IfErr-weaker c.missing_lock.result _ _ (λ r h. error_counts r.error NoPath h.1 (λ n. cc n))
     c.missing_lock.ensures.error
+
+pub returns-clause-only : goal.returns-clause-only
+returns-clause-only g c =
+    let old = g.S.Store.view c.args.files.now in
+    let bytes = c.in-Ok-Some.bytes.items in
+    let e = c.in-Err-read.error in
+    let bad = subst (λ (bs : List ℕ). IsMemory e ⊎ ((e ≡ Metadata) × IsNoLock bs)) c.deref.ensures.value
+    c.in-Err-read.ensures.error in
+    malformed_lock c.args.required old (g.S.Store.view c.read.new.self) c.args.named.now bytes e
+    c.at_path.result.error bad c.at_path.ensures.error
+
+pub returns-in-Ok-None-clause-only : goal.returns-in-Ok-None-clause-only
+returns-in-Ok-None-clause-only g c =
+    IfErr-weaker c.missing_lock.result _ _ (λ r h. inr (inl h)) c.missing_lock.ensures.error

@@ -41,7 +41,7 @@ returns-in_err-readings-clause-why g c =
     (λ error. IsUpgradeCause (Appends out out) args (run_at current home local old mid) error)
     c.from_residual-in_err-readings.ensures.1
     (policy_cause (Appends out out) args current home local old mid e.error c.read.ensures.store.files
-    c.in_err-readings.ensures.error)
+    c.in_err-readings.ensures.only c.in_err-readings.ensures.error)
 
 pub returns-in-Err-clause-why : goal.returns-in-Err-clause-why
 returns-in-Err-clause-why g c =
@@ -60,7 +60,8 @@ returns-in-Err-clause-why g c =
     subst (λ e. IsUpgradeCause (Appends out out) args (run_at current home local old mid) e)
     (sym c.explain_upgrade.ensures.same)
     (plan_cause (Appends out out) args current home local old mid r c.in-Err.error
-    (λ path. c.explain_upgrade.ensures.reads.files path ∙ c.in_ok-readings.ensures.store.files path) ready
+    (λ path. c.explain_upgrade.ensures.reads.files path ∙ c.in_ok-readings.ensures.store.files path)
+    c.in_ok-readings.ensures.by_policy ready
     (unplanned_for r local c.in-Err.error (test_of c.index_restriction-restriction.result) test
     c.in-Err.ensures.error))
 
@@ -100,7 +101,7 @@ returns-in_err-revised-clause-why g c =
     (λ error. IsUpgradeCause (Appends out out) args (run_at current home local old mid) error)
     c.from_residual-in_err-revised.ensures.1
     (revision_cause (Appends out out) args current home local old mid r c.in-Ok.plan e
-    c.in_ok-readings.ensures.store.files ready
+    c.in_ok-readings.ensures.store.files c.in_ok-readings.ensures.by_policy ready
     (planned_for r local c.in-Ok.plan (test_of c.index_restriction-restriction.result) test
     c.in-Ok.ensures.planned)
     c.in_err-revised.ensures.error)
@@ -244,7 +245,8 @@ returns-clause-why g c =
     subst (λ e. IsUpgradeCause HasFields args (run_at current home local old new) e)
     (sym c.explain_delivery.ensures)
     (stop_cause HasFields args current home local old mid new r single plan apart path
-    c.in-Err-deliver.error.error c.in_ok-readings.ensures.store ready planned revised at
+    c.in-Err-deliver.error.error c.in_ok-readings.ensures.store c.in_ok-readings.ensures.by_policy ready
+    planned revised at
     (subst (λ d. IsDeliveryCause HasFields d mid new c.in-Err-deliver.error.error) delivered
     c.in-Err-deliver.ensures.cause))
 
