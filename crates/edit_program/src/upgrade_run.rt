@@ -7,6 +7,7 @@ mod lookup_printing;
 mod merging;
 mod plan;
 mod policy_age;
+mod policy_reading;
 mod reading;
 mod revising;
 mod unifying;

@@ -1,29 +1,26 @@
 //! Follows the policy of the manifest in the root.
-ghost use Rattle.std.specs.Prelude.{◌≡◌, ◌≢◌, ◌⊎◌, IfErr, IfOk, Option, Some, option_copied, true};
+ghost use Rattle.std.specs.Prelude.{◌≡◌, ◌≢◌, ◌⊎◌, IfErr, IfOk, true};
 ghost use Rattle.edit_base.specs.Errors.{IsMemory, number_of};
 ghost use Rattle.edit_base.specs.declared.errors.DeviceCall.TheVariants as call;
-ghost use Rattle.edit_metadata.specs.declared.input.Input.{Input};
-ghost use Rattle.edit_policy.specs.Manifests.{IsManifestFault, IsManifestPolicy};
 ghost use Rattle.edit_sources.specs.Configured.{given};
 ghost use Rattle.edit_steps.specs.Causes.{HasNoIndex, IsFailure, IsReadCause};
 ghost use Rattle.edit_steps.specs.Errors.{IsIndexError};
 ghost use Rattle.edit_steps.specs.Faults.{CountsFault};
-ghost use Rattle.edit_steps.specs.Sources.{AreDocuments, MayBePlanned};
+ghost use Rattle.edit_steps.specs.Sources.{MayBePlanned};
 ghost use Rattle.edit_store.specs.Store.{IsCallError, OnlyReads};
-ghost use Rattle.edit_program.specs.Followed.{AreByPolicy, AreForPolicy, AreForRust, AreForVersion, AreOverIndex, HasBadPolicy, HasFaultIn, HasNoUpgradeIndex, HasPolicyFault, HasRoot, HasRootFault, IsFollowed, IsFollowing, IsIndexBy, IsParsedFrom, IsPolicyIn, IsReady, IsRootPolicy, IsUnfollowed, with_index};
+ghost use Rattle.edit_program.specs.Followed.{AreByPolicy, AreForPolicy, AreForRust, AreForVersion, AreOverIndex, HasBadPolicy, HasNoUpgradeIndex, IsFollowing, IsIndexBy, IsReady, IsUnfollowed, with_index};
 ghost use Rattle.edit_program.specs.LockRead.{HasNoLock};
 ghost use Rattle.edit_program.specs.Planned.{to_manifest_request};
 ghost use Rattle.edit_program.specs.UpgradeErrors.{IsReadingError};
 
 use crate::upgrade_run::merging::merge_args;
 use crate::upgrade_run::policy_age::policy_bound;
+use crate::upgrade_run::policy_reading::read_policy;
 use crate::upgrade_run::reading::{ReadFiles, read_files};
 use crate::upgrade_run::upgrade_args::UpgradeArgs;
-use edit_diagnostics::explain_policy;
-use edit_document::Document;
 use edit_lock::Lock;
-use edit_metadata::{Input, root_input, with_rust_version};
-use edit_policy::{Policy, PolicyError, document_policy, manifest_policy};
+use edit_metadata::with_rust_version;
+use edit_policy::Policy;
 use edit_sources::PublishedBefore;
 use edit_steps::RunResult;
 use edit_steps::upgrade_read::{RustChoice, Sources, Target, read_index};
@@ -38,75 +35,6 @@ pub(crate) struct Readings<'a> {
     pub(crate) lock: Option<Lock>,
     pub(crate) policy: Policy,
     pub(crate) args: UpgradeArgs<'a>,
-}
-
-/// The policy in a manifest, of which this is the document where it is parsed already.
-fn input_policy(
-    alloc: Global,
-    input: &Input,
-    document: Option<&Document>,
-) -> Result<Policy, PolicyError>
-    requires document { IsParsedFrom (Some input.now) (option_copied document) }
-    ensures policy { IfOk result (IsManifestPolicy input.now.bytes.items) }
-    ensures error { IfErr result (IsManifestFault input.now.bytes.items) }
-{
-    match document {
-        Some(document) => document_policy(alloc, document),
-        None => manifest_policy(alloc, &input.bytes),
-    }
-}
-
-/// The policy in a manifest, of which this is the document where it is parsed already; one that says nothing
-/// where there is no manifest.
-fn policy_in(alloc: Global, root: Option<&Input>, document: Option<&Document>) -> RunResult<Policy>
-    requires document { IsParsedFrom (option_copied root) (option_copied document) }
-    ensures policy { IfOk result (IsPolicyIn (option_copied root.entry)) }
-    ensures error { IfErr result (λ r. HasFaultIn (option_copied root.entry) r.error) }
-    ensures counted { IfErr result (λ r. number_of r.error ≢ 3) }
-{
-    let Some(input) = root else {
-        return Ok(Policy::empty(alloc));
-    };
-    match input_policy(alloc, input, document) {
-        Ok(policy) => Ok(policy),
-        Err(error) => Err(explain_policy(alloc, input, error)),
-    }
-}
-
-/// The document of the manifest in the root, where it is parsed already: without metadata it is the only one.
-fn root_document(target: &Target) -> Option<&Document>
-    requires documents { AreDocuments target.now.documents.items target.now.inputs.items }
-    ensures { (root : Option Input) → HasRoot target.now root → IsParsedFrom root (option_copied result) }
-{
-    match target.workspace {
-        Some(_) => None,
-        None => target.documents.first(),
-    }
-}
-
-/// The policy of the manifest in the root.
-fn root_policy(alloc: Global, target: &Target) -> RunResult<Policy>
-    requires documents { AreDocuments target.now.documents.items target.now.inputs.items }
-    ensures policy { IfOk result (IsRootPolicy target.now) }
-    ensures error { IfErr result (λ r. IsMemory r.error ⊎ HasRootFault target.now r.error) }
-    ensures counted { IfErr result (λ r. number_of r.error ≢ 3) }
-{
-    let root = root_input(alloc, target.workspace.as_ref(), target.inputs.as_slice())?;
-    policy_in(alloc, root, root_document(target))
-}
-
-/// The policy of the manifest in the root; one that says nothing where it is ignored.
-fn read_policy(alloc: Global, ignored: bool, target: &Target) -> RunResult<Policy>
-    requires documents { AreDocuments target.now.documents.items target.now.inputs.items }
-    ensures policy { IfOk result (IsFollowed ignored target.now) }
-    ensures error { IfErr result (λ r. IsMemory r.error ⊎ HasPolicyFault ignored target.now r.error) }
-    ensures counted { IfErr result (λ r. number_of r.error ≢ 3) }
-{
-    if ignored {
-        Ok(Policy::empty(alloc))
-    } else {
-        root_policy(alloc, target)
-    }
 }
 
 /// The files that were read, with inputs for a Rust version.

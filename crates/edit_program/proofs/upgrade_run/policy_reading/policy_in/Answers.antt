@@ -2,7 +2,7 @@ use Rattle.std.proofs.Common.{subst, sym}
 use Rattle.std.specs.Prelude.{option_copied}
 use Rattle.edit_program.specs.Followed.{HasFaultIn}
 use Rattle.edit_program.proofs.PolicyLemmas.{fault_counts}
-use Rattle.edit_program.proofs.upgrade_run.following.policy_in.Goals as goal
+use Rattle.edit_program.proofs.upgrade_run.policy_reading.policy_in.Goals as goal
 
 pub returns-in-Err-clause-error : goal.returns-in-Err-clause-error
 returns-in-Err-clause-error c =

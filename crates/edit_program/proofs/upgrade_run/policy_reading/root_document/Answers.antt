@@ -1,6 +1,6 @@
 use Rattle.std.specs.Prelude.{option_copied}
 use Rattle.edit_program.proofs.PolicyLemmas.{root_parsed}
-use Rattle.edit_program.proofs.upgrade_run.following.root_document.Goals as goal
+use Rattle.edit_program.proofs.upgrade_run.policy_reading.root_document.Goals as goal
 
 pub returns-in-None : goal.returns-in-None
 returns-in-None c = λ root is.

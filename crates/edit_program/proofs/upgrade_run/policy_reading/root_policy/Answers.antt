@@ -6,7 +6,7 @@ use Rattle.edit_steps.proofs.ErrorFields.{failure_made}
 use Rattle.edit_program.specs.Followed.{HasRootFault}
 use Rattle.edit_program.proofs.CountLemmas.{memory_counts}
 use Rattle.edit_program.proofs.PolicyLemmas.{root_of}
-use Rattle.edit_program.proofs.upgrade_run.following.root_policy.Goals as goal
+use Rattle.edit_program.proofs.upgrade_run.policy_reading.root_policy.Goals as goal
 
 pub returns-in_err-root-clause-error : goal.returns-in_err-root-clause-error
 returns-in_err-root-clause-error c =
