@@ -1,8 +1,8 @@
 # shellcheck shell=bash disable=SC2034
 # Sourced by tools/checks/cargo_*.sh: the commands, installed from the tarball of tools/dist.sh, real cargo, and the
 # loopback registries of registry.py. A check is a function `row_NAME`; `all_rows` runs each by itself, prints which
-# failed, and has status 1 if one did. CARGO_CHECK_SCRIPTS=DIR replaces the installed scripts by those of DIR, to see
-# which rows other scripts fail; ROWS='NAME ..' runs these rows only.
+# failed, and has status 1 if one did. CARGO_CHECK_SCRIPTS=DIR replaces the installed scripts by those of DIR (and of
+# DIR/../share/cargo-edit), to see which rows other scripts fail; ROWS='NAME ..' runs these rows only.
 set -u -o pipefail
 export LC_ALL=C
 self=$(basename "$0")
@@ -25,7 +25,10 @@ begin() { # PROGRAM
   "$here/tools/dist.sh" "$room" "$1" > "$room/log" 2>&1 || { cat "$room/log"; exit 1; }
   tar -xzf "$room"/cargo-edit-*.tar.gz -C "$room/alone"
   (cd "$room"/alone/* && ./install.sh "$room/prefix") > "$room/log" 2>&1 || { cat "$room/log"; exit 1; }
-  if [ -n "${CARGO_CHECK_SCRIPTS-}" ]; then cp "$CARGO_CHECK_SCRIPTS"/cargo-* "$room/prefix/bin"; fi
+  if [ -n "${CARGO_CHECK_SCRIPTS-}" ]; then
+    cp "$CARGO_CHECK_SCRIPTS"/cargo-* "$room/prefix/bin"
+    cp "$CARGO_CHECK_SCRIPTS"/../share/cargo-edit/*.sh "$room/prefix/share/cargo-edit" 2> /dev/null || true
+  fi
   python3 "$here/tools/cargo_checks/registry.py" "$room" &
   server=$!
   for _ in $(seq 100); do [ -f "$room/port" ] || sleep 0.1; done
