@@ -3,6 +3,7 @@ import os
 import re
 
 from source import Source
+from twins import add_twin
 
 # The prover's errors for a proof file that names something that no longer exists, and for a file that cites such a proof.
 TAKEN_AWAY = re.compile(r"is not in scope|has no field|has no `|is no name|takes? no such")
@@ -18,13 +19,15 @@ class Unusable(Exception):
 
 class Edit:
     """A mutant: the pairs of texts, the functions that they lie in, all functions of their cycles, and an input on which
-    its result differs, where it names one."""
+    its result differs, where it names one. `twin`: the name of the twin that it changes in place of its function, in a copy
+    where another mutant changes that; `number` tells twins apart; `may_twin`: whether it may stand in one."""
 
     def __init__(self, file, source: Source):
         self.file, self.folder, self.functions, self.members, self.apart = file, source.folder, set(), set(), set()
+        self.source, self.twin, self.number, self.may_twin = source, None, 0, True
         with open(file, encoding="utf-8") as it:
             text = it.read()
-        self.pairs, self.differs = list(pairs(text)), differs(text)
+        self.content, self.pairs, self.differs = text, list(pairs(text)), differs(text)
         if not self.pairs:
             raise Unusable("it has no 'old:' and 'new:' pair")
         made = {}
@@ -61,13 +64,33 @@ class Edit:
 
     def beside(self, group, texts):
         """The texts with this edit made too, or nothing where it cannot be combined with those of the group."""
-        for other in group:
-            if self.members & (other.members | other.apart) or other.members & self.apart:
-                return None
+        self.twin = None
+        if any(self.members & other.apart or other.members & self.apart for other in group):
+            return None
+        if any(self.members & other.members for other in group):
+            self.number = 2 + len([it for it in group if it.twin])
+            return self.in_twin(texts, True) if self.may_twin and len(self.functions) == 1 else None
         try:
             return self.over(texts)
         except Unusable:
             return None
+
+    def in_twin(self, texts, is_made):
+        """The texts with a twin of the function, in which the edit is made or not, or nothing where it can have none."""
+        path, (name,) = self.pairs[0][0], self.functions
+        whole = self.text({}, path)
+        made = add_twin(self.source, path, whole, texts, self.over({})[path] if is_made else whole, name, self.number)
+        if made:
+            self.twin = made[1]
+        return made and made[0]
+
+    def checked(self):
+        """The functions that a check of the copy is to prove."""
+        return {self.twin} if self.twin else self.functions
+
+    def changed(self):
+        """What the edit changes in the copy: its functions, and what is in a cycle with them."""
+        return {self.twin} if self.twin else self.members
 
 
 def place(text, old, path):
@@ -175,9 +198,10 @@ class Report:
 def judged(edit, report, changed):
     """The verdict of a check on an edit where these functions are changed: 'refused', 'failed' or 'again', and why; with
     'again' the functions beside which it is not to be tried."""
-    ours = lambda found: [found[it] for it in sorted(found) if holds(edit.members, it)]
-    waits = {it for name in report.waits if holds(edit.members, name) for it in report.whole_wait(name)}
-    foreign = {it for it in changed - edit.members if any(holds({it}, name) for name in waits)}
+    own = edit.changed()
+    ours = lambda found: [found[it] for it in sorted(found) if holds(own, it)]
+    waits = {it for name in report.waits if holds(own, name) for it in report.whole_wait(name)}
+    foreign = {it for it in changed - own if any(holds({it}, name) for name in waits)}
     strangers, broken = report.strangers(changed), [it for found in ours(report.broken) for it in found]
     if not report.reached_prover():
         return "failed", "the check does not reach the prover: %s" % report.first_error()
@@ -198,7 +222,7 @@ def judged(edit, report, changed):
             "result differs: %s" % (broken[0][0] or "a proof", broken[0][1]))
     if foreign:
         return "again", foreign
-    return "failed", (ours(report.other) or ["%s is proved" % ", ".join(sorted(edit.functions))])[0]
+    return "failed", (ours(report.other) or ["%s is proved" % ", ".join(sorted(edit.checked()))])[0]
 
 
 def is_of_contract(goal):

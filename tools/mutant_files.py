@@ -1,5 +1,6 @@
 """The files of mutants: which there are, which are to be tried, and which crates should have some and have none."""
 import glob
+import hashlib
 import os
 import re
 import sys
@@ -33,6 +34,25 @@ def chosen(crates, args, kind):
             sys.exit("wrong_bodies: crates.txt names no crate %s, and it is no edit of one" % arg)
         wanted.setdefault(crate, []).extend([os.path.abspath(arg)] if arg.endswith(".edit") else found[crate])
     return {crate: list(dict.fromkeys(files)) for crate, files in wanted.items()}
+
+
+def sums_of(text):
+    """The checksum of the sources, and those of the crates by their names, in a text that tools/sources wrote."""
+    lines = [it.split() for it in text.split("\n") if it.strip()]
+    whole = lines[0][0] if lines and len(lines[0]) == 1 else ""
+    return whole, {it[1].removeprefix("crates/"): it[0] for it in lines if len(it) == 2}
+
+
+def changed_crates(names, now, released):
+    """Those of these crates whose checksum is not the one that the release has; what it has none of counts as changed."""
+    return [name for name in names if now.get(name) is None or now[name] != released.get(name)]
+
+
+def third(crate, files, sources):
+    """A third of the mutants of a crate, at least one, by the checksum of the sources: another third once they change."""
+    drawn = lambda file: hashlib.sha256(("%s %s/%s" % (sources, crate, os.path.basename(file))).encode()).digest()
+    kept = set(sorted(files, key=drawn)[: (len(files) + 2) // 3])
+    return [it for it in files if it in kept]
 
 
 def without_mutants(crates, wanted, kind):

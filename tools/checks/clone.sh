@@ -18,7 +18,7 @@ done
 printf '[safe]\n\tdirectory = *\n' > "$room/gitconfig"
 GIT_CONFIG_GLOBAL=$room/gitconfig git clone -q "$here" "$room/clone"
 cd "$room/clone"
-if [ ! -f release/SOURCES ] || [ "$(cat release/SOURCES)" != "$(tools/sources)" ]; then
+if [ ! -f release/SOURCES ] || [ "$(head -n 1 release/SOURCES)" != "$(tools/sources)" ]; then
   mkdir -p release
   cp "$program" release/cargo-edit
   tools/sources > release/SOURCES

@@ -16,12 +16,20 @@ from contracts_alone import leave_contracts  # noqa: E402
 from edits import Edit, Report, Unusable, judged  # noqa: E402
 from mutant_files import chosen, without_mutants  # noqa: E402
 from source import Source  # noqa: E402
+from trial import Trial  # noqa: E402
+from verdicts import Verdicts  # noqa: E402
 
 loader = importlib.machinery.SourceFileLoader("wrong_bodies", os.path.join(TOOLS, "wrong_bodies"))
 wrong_bodies = importlib.util.module_from_spec(importlib.util.spec_from_loader("wrong_bodies", loader))
 loader.exec_module(wrong_bodies)
 
-Crate = collections.namedtuple("Crate", "name folder")
+
+
+class Crate(collections.namedtuple("Crate", "name folder libraries", defaults=[()])):
+    def below(self):
+        return [Crate(name, os.path.join(os.path.dirname(self.folder), name)) for name in self.libraries]
+
+
 FILES = {
     "src/lib.rt": "mod read;\npub mod tree;\n\n/// Counts.\npub fn count(n: u8) -> u8\n    ensures { result ≡ n }\n"
                   "{\n    n\n}\n",
@@ -41,7 +49,9 @@ AT_RETURN = "./proofs/count/Answers.antt:12:5: error: this `refl` lands at 0"
 GONE = "./proofs/count/Answers.antt:8:5: error: `c.n`\n  is not in scope"
 
 
-class Mutants(unittest.TestCase):
+class Room(unittest.TestCase):
+    """A small crate in a folder of its own, which is the current folder."""
+
     def setUp(self):
         room = tempfile.TemporaryDirectory()
         self.addCleanup(room.cleanup)
@@ -58,6 +68,33 @@ class Mutants(unittest.TestCase):
             file.write(text)
         return path
 
+    def read(self, path):
+        with open(os.path.join(self.folder, path), encoding="utf-8") as file:
+            return file.read()
+
+    def trial(self, edits=(COUNT,), is_proved=True, lines=(OPEN,), kit="kit", **chosen):
+        """The trial of these mutants, by recorded checks; `checked` says of each whether it had a mutant."""
+        options = types.SimpleNamespace(**{"proved": False, "alone": False, "after": None, "warm": False, **chosen})
+        files = [self.write("wrong-bodies/edit-%d.edit" % number, text) for number, text in enumerate(edits)]
+        self.write("../low/src/lib.rt", "pub fn low() {}\n") if not os.path.isdir("crates/low") else None
+        verdicts = Verdicts(kit, os.path.abspath("kept"), not chosen.get("anew"))
+        trial = Trial(None, Crate("a", self.folder, ("low",)), files, options, verdicts)
+        trial.said, trial.checked = [], []
+        trial.note, trial.is_built = trial.said.append, lambda edits: True
+
+        def check(room, texts, edits, what="copy"):
+            trial.checked.append(what == "copy")
+            said = lines if what == "copy" else ["fn a::count: no holes" if is_proved else OPEN]
+            return Report("\n".join([*said, ENDED]), "a", self.folder)
+
+        trial.check = check
+        return trial
+
+    def tried(self, **chosen):
+        return self.trial(**chosen).run()
+
+
+class Mutants(Room):
     def edit(self, text):
         return Edit(self.write("wrong-bodies/one.edit", text), Source(self.folder))
 
@@ -144,10 +181,6 @@ class Mutants(unittest.TestCase):
         os.rmdir(os.path.dirname(edit))
         self.assertEqual(bare("wrong-bodies"), [])
 
-    def read(self, path):
-        with open(os.path.join(self.folder, path), encoding="utf-8") as file:
-            return file.read()
-
     def test_other_functions_have_their_contracts_alone(self):
         leave_contracts(self.folder, "a", {"tree::Tree::depth"})
         self.assertIn("    ensures { result ≡ n }\n{ unreachable!() }", self.read("src/lib.rt"))
@@ -158,32 +191,17 @@ class Mutants(unittest.TestCase):
         self.assertNotIn("self.up()", read)
         self.assertNotIn("#[cycle", read)
 
-    def tried(self, is_proved, alone):
-        """The trial of a mutant, by recorded checks; `checked` says of each whether it had the mutant."""
-        options = types.SimpleNamespace(proved=False, alone=alone, after=None, warm=False)
-        trial = wrong_bodies.Trial(None, Crate("a", self.folder), [self.write("wrong-bodies/one.edit", COUNT)], options)
-        trial.said, trial.checked = [], []
-        trial.note, trial.is_built = trial.said.append, lambda: True
-
-        def check(room, texts, edits):
-            trial.checked.append(bool(texts))
-            line = OPEN if texts or not is_proved else "fn a::count: no holes"
-            return Report(line + "\n" + ENDED, "a", self.folder)
-
-        trial.check = check
-        return trial.run()
-
     def test_the_unchanged_function_is_proved_first(self):
-        trial = self.tried(True, False)
-        self.assertEqual((trial.passed, trial.failed, trial.checked), (1, 0, [False, True]))
-        trial = self.tried(False, False)
+        trial = self.tried(is_proved=False)
         self.assertEqual((trial.passed, trial.failed, trial.checked), (0, 1, [False]))
         self.assertIn("the unchanged crate is not proved at count", trial.said[0])
+        trial = self.tried()
+        self.assertEqual((trial.passed, trial.failed, trial.checked), (1, 0, [False, True]))
 
     def test_alone_tries_no_mutant(self):
-        trial = self.tried(True, True)
+        trial = self.tried(alone=True)
         self.assertEqual((trial.passed, trial.failed, trial.checked), (1, 0, [False]))
-        trial = self.tried(False, True)
+        trial = self.tried(is_proved=False, alone=True)
         self.assertEqual((trial.passed, trial.failed, trial.checked), (0, 1, [False]))
         self.assertIn("the unchanged crate is not proved at count", trial.said[0])
 

@@ -1,5 +1,8 @@
 #!/bin/sh
-# mutants.sh   tools/wrong_bodies reads mutants and judges the output of checks as its docstring describes: tested on a small
-# crate and recorded lines of checks, without the prover (mutants.py).
+# mutants.sh   tools/wrong_bodies reads mutants, chooses those that are tried, takes over verdicts of earlier runs and judges the
+# output of checks as its docstring describes: tested on a small crate and recorded lines of checks, without the prover
+# (mutants.py, kept_verdicts.py).
 set -eu
-exec python3 "$(dirname "$0")/mutants.py"
+here=$(dirname "$0")
+python3 "$here/mutants.py"
+exec python3 "$here/kept_verdicts.py"
