@@ -48,7 +48,7 @@ while [ ! -d "$prefix" ]; do
         *) prefix=. ;;
     esac
 done
-prefix=$(CDPATH='' cd -- "$prefix" && pwd -P)
+prefix=$(CDPATH='' cd -- "$prefix" 2> /dev/null && pwd -P) || fail "$prefix cannot be entered"
 prefix=${prefix%/}$rest
 prefix=${prefix%/}
 [ "${prefix##*/}" != bin ] || prefix=${prefix%/bin}
@@ -58,40 +58,75 @@ case "$prefix/" in
 esac
 # the list of what was installed: a line for each file, and for each folder that was made
 list=share/cargo-edit/installed
-
-# Removes what a list names, files before folders, and folders only where they are empty.
-remove() { # LIST
-    sort -r "$1" | while IFS= read -r it; do
-        if [ -d "$prefix/$it" ] && [ ! -L "$prefix/$it" ]; then
-            rmdir "$prefix/$it" 2> /dev/null || true
-        else
-            rm -f "$prefix/$it"
-        fi
-    done
+room=$(mktemp -d 2> /dev/null) || fail "no temporary folder can be made in ${TMPDIR:-/tmp}"
+part='' # a file that is written and does not have its name yet
+trap 'rm -rf "$room"; [ -z "$part" ] || rm -f "$part"' EXIT
+trap 'exit 130' INT
+trap 'exit 143' TERM
+trap 'exit 129' HUP
+undo=''
+try() { # WHAT FAILED, COMMAND ..
+    what=$1
+    shift
+    said=$("$@" 2>&1) || fail "$what: ${said##*: }$undo"
 }
 
+# Removes what a list names, files before folders, and folders only where they are empty; the list itself last, and only
+# where nothing of it is left.
+uninstall() {
+    sort -ru "$prefix/$list" > "$room/old"
+    : > "$room/left"
+    while IFS= read -r it; do
+        if [ "$it" = "$list" ]; then
+            :
+        elif [ -d "$prefix/$it" ] && [ ! -L "$prefix/$it" ]; then
+            rmdir "$prefix/$it" 2> /dev/null || true
+        else
+            said=$(rm -f "$prefix/$it" 2>&1) || printf '%s cannot be removed: %s\n' "$prefix/$it" "${said##*: }" >> "$room/left"
+        fi
+    done < "$room/old"
+    if [ -s "$room/left" ]; then
+        sed 's/^/install.sh: /' "$room/left" >&2
+        fail "the list of what is left is $prefix/$list"
+    fi
+    try "$prefix/$list cannot be removed" rm -f "$prefix/$list"
+    while IFS= read -r it; do
+        rmdir "$prefix/$it" 2> /dev/null || true
+    done < "$room/old"
+}
 if [ "$task" = uninstall ]; then
     [ -f "$prefix/$list" ] || fail "nothing to remove: there is no $prefix/$list"
-    old=$(mktemp)
-    trap 'rm -f "$old"' EXIT
-    cp "$prefix/$list" "$old"
-    remove "$old"
+    uninstall
     echo "removed cargo-edit from $prefix (its cache, \${XDG_CACHE_HOME:-~/.cache}/cargo-edit, may be removed with rm -r)" >&2
     exit 0
 fi
 
-# A tarball has the program in bin/, and the sums of its files.
+# Compares the files of a folder with its SHA256SUMS.
+compare() { # FOLDER, NAME OF THE PROGRAM IN IT
+    command -v sha256sum > /dev/null || fail "there is no sha256sum on PATH to compare $1/SHA256SUMS with"
+    grep -q "^[0-9a-f]\{64\}  $2\$" "$1/SHA256SUMS" 2> /dev/null || fail "$1/SHA256SUMS does not have the checksum of $2"
+    (cd "$1" && sha256sum -c SHA256SUMS 2> /dev/null) > "$room/compared" \
+        || fail "$1/$(sed -n 's/: FAILED.*//p' "$room/compared" | head -n 1) is not as it was released; nothing was installed"
+}
 if [ -f "$here/SHA256SUMS" ]; then
-    if command -v sha256sum > /dev/null; then
-        (cd "$here" && sha256sum --quiet -c SHA256SUMS) || fail "a file of this folder is not as it was released"
-    fi
+    # A tarball has the program in bin/.
     [ -z "$source" ] || fail "--from-source needs a clone of the repository"
+    compare "$here" bin/cargo-edit
     program=$here/bin/cargo-edit
     origin="the released program"
-else
-    [ -z "$source" ] || export CARGO_EDIT_FROM_SOURCE=1
+elif [ -n "$source" ]; then
+    export CARGO_EDIT_FROM_SOURCE=1
     program=$("$here/tools/program")
     origin=$("$here/tools/program" --describe)
+else
+    compare "$here/release" cargo-edit
+    program=$("$here/tools/program")
+    origin=$("$here/tools/program" --describe)
+    if [ "$(head -n 1 "$here/release/SOURCES")" = "$("$here/tools/sources")" ]; then
+        echo "release/cargo-edit is as it was released, and was made from the sources as they stand here" >&2
+    else
+        echo "note: release/cargo-edit was made from other sources than those here; --from-source builds the program from these" >&2
+    fi
 fi
 "$program" --version > /dev/null 2>&1 \
     || fail "$program does not run here: it needs x86-64 Linux with glibc 2.34 or later"
@@ -104,27 +139,44 @@ for it in cargo-edit cargo-upgrade cargo-set-version; do
     fi
 done
 
-room=$(mktemp -d)
-trap 'rm -rf "$room"' EXIT
-: > "$room/old"
-[ ! -f "$prefix/$list" ] || cp "$prefix/$list" "$room/old"
-: > "$room/new"
-
-# Notes each folder at or below the prefix that is made for a file.
+# Notes each folder at or below the prefix that is made for a file. The list grows with what is put, so that `uninstall` takes
+# it back where a later step fails.
 make_folders() { # FOLDER, from the prefix
     [ ! -d "$prefix/$1" ] || return 0
     case $1 in */*) make_folders "${1%/*}" ;; esac
-    mkdir -p "$prefix/$1"
-    printf '%s\n' "$1" >> "$room/new"
+    try "the folder $prefix/$1 cannot be made" mkdir "$prefix/$1"
+    note "$1"
 }
+note() { # FILE or FOLDER, from the prefix
+    printf '%s\n' "$1" >> "$room/new"
+    [ ! -f "$prefix/$list" ] || try "$prefix/$list cannot be written" append "$1"
+}
+append() { printf '%s\n' "$1" >> "$prefix/$list"; }
 put() { # MODE FILE TO
     make_folders "${3%/*}"
-    cp "$2" "$prefix/$3.new.$$"
-    chmod "$1" "$prefix/$3.new.$$"
-    mv -f "$prefix/$3.new.$$" "$prefix/$3"
-    printf '%s\n' "$3" >> "$room/new"
+    part=$prefix/$3.new.$$
+    try "$prefix/$3 cannot be written" cp "$2" "$part"
+    try "$prefix/$3 cannot be written" chmod "$1" "$part"
+    note "$3"
+    try "$prefix/$3 cannot be written" mv -f "$part" "$prefix/$3"
+    part=''
 }
-mkdir -p "$prefix"
+: > "$room/old"
+[ ! -f "$prefix/$list" ] || try "$prefix/$list cannot be read" cp "$prefix/$list" "$room/old"
+: > "$room/new"
+try "the folder $prefix cannot be made" mkdir -p "$prefix"
+begin_list() {
+    make_folders "${list%/*}"
+    cat "$room/old" "$room/new" > "$room/list"
+    put 644 "$room/list" "$list"
+}
+(begin_list) || {
+    # (nothing but folders was made)
+    rm -f "$prefix/$list.new.$$"
+    sort -r "$room/new" | while IFS= read -r it; do rmdir "$prefix/$it" 2> /dev/null || true; done
+    exit 1
+}
+undo="; what was put there so far is removed by: '$here/install.sh' uninstall '$prefix'"
 put 755 "$program" bin/cargo-edit
 put 755 "$here/bin/cargo-upgrade" bin/cargo-upgrade
 put 755 "$here/bin/cargo-set-version" bin/cargo-set-version
@@ -140,10 +192,9 @@ while IFS= read -r it; do
     if [ -d "$prefix/$it" ]; then
         printf '%s\n' "$it" >> "$room/new"
     elif ! grep -q -x -F "$it" "$room/new"; then
-        rm -f "$prefix/$it"
+        try "$prefix/$it, of an earlier version, cannot be removed" rm -f "$prefix/$it"
     fi
 done < "$room/old"
-printf '%s\n' "$list" >> "$room/new"
 sort -u "$room/new" > "$room/list"
 put 644 "$room/list" "$list"
 echo "installed cargo-edit, cargo-upgrade and cargo-set-version in $prefix/bin ($origin)" >&2

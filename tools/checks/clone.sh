@@ -22,6 +22,7 @@ if [ ! -f release/SOURCES ] || [ "$(head -n 1 release/SOURCES)" != "$(tools/sour
   mkdir -p release
   cp "$program" release/cargo-edit
   tools/sources > release/SOURCES
+  (cd release && sha256sum cargo-edit SOURCES TOOLCHAIN > SHA256SUMS)
 fi
 
 # The tools of the system and the cargo of PATH (where it is rustup's, the one that rustup runs), and nothing else.
@@ -101,11 +102,45 @@ export CDPATH=/usr
 (umask 077 && runs 0 env CDPATH=/usr "$room/clone/install.sh" "a prefix/bin")
 unset CDPATH
 says 'is not on PATH'
+says 'release/cargo-edit is as it was released, and was made from the sources as they stand here'
 [ "$(stat -c %a "a prefix/bin/cargo-upgrade" "a prefix/share/man/man1" "a prefix/bin/cargo-edit" | sort -u)" = 755 ] || fails 'modes'
 cmp "a prefix/bin/cargo-edit" clone/release/cargo-edit
 cd ws
 extra="$room/a prefix/bin"
 both
+
+# a program that is not the released one is neither run nor installed, and it is said where the sources are others
+extra=
+cp -R "$room/clone/release" "$room/released"
+printf '#!/bin/sh\necho pwned\n' > "$room/clone/release/cargo-edit"
+runs 1 "$room/clone/install.sh" "$room/changed"
+says 'clone/release/cargo-edit is not as it was released; nothing was installed'
+! grep -q pwned "$room/out" || fails 'it was run'
+[ ! -e "$room/changed" ] || fails 'something was installed'
+(cd "$room/clone/release" && sha256sum SOURCES TOOLCHAIN > SHA256SUMS)
+runs 1 "$room/clone/install.sh" "$room/changed"
+says 'release/SHA256SUMS does not have the checksum of cargo-edit'
+[ ! -e "$room/changed" ] || fails 'something was installed'
+rm -rf "$room/clone/release"
+cp -R "$room/released" "$room/clone/release"
+cp "$room/clone/crates.txt" "$room/crates.txt"
+echo '# a line' >> "$room/clone/crates.txt"
+runs 0 "$room/clone/install.sh" "$room/newer"
+says 'note: release/cargo-edit was made from other sources than those here'
+cp "$room/crates.txt" "$room/clone/crates.txt"
+
+# what failed in the middle is taken back by `uninstall`, and what failed before it leaves nothing
+mkdir -p "$room/half/share" "$room/none"
+touch "$room/half/share/man" "$room/none/share"
+runs 1 "$room/clone/install.sh" "$room/half"
+says "the folder $room/half/share/man cannot be made: File exists; what was put there so far is removed by: "
+[ "$(grep -c . "$room/out")" = 2 ] || fails 'more than two lines'
+cmp "$room/half/bin/cargo-edit" "$room/clone/release/cargo-edit"
+runs 0 "$room/clone/install.sh" uninstall "$room/half"
+[ "$(cd "$room/half" && find . | sort | tr '\n' ' ')" = '. ./share ./share/man ' ] || fails "left: $(find "$room/half")"
+runs 1 "$room/clone/install.sh" "$room/none"
+says "the folder $room/none/share cannot be made: File exists"
+[ "$(cd "$room/none" && find . | sort | tr '\n' ' ')" = '. ./share ' ] || fails "left: $(find "$room/none")"
 
 # a command of another origin, and one that cargo takes first
 printf '#!/bin/sh\n' > "$room/other"

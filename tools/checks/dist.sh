@@ -42,3 +42,7 @@ sets "$room/a prefix/bin/cargo-set-version"
 (cd share && find . -type f) | while IFS= read -r file; do cmp "share/$file" "$room/a prefix/share/$file"; done
 ./install.sh uninstall "$room/a prefix/bin"
 [ -z "$(find "$room/a prefix" -type f -o -type l)" ] || { echo "a file is left"; find "$room/a prefix"; exit 1; }
+# a program that is not the released one is not installed
+printf '#!/bin/sh\necho pwned\n' > bin/cargo-edit
+if ./install.sh "$room/changed" > "$room/out" 2>&1 || [ -e "$room/changed" ]; then echo "a changed program is installed"; exit 1; fi
+grep -q '/bin/cargo-edit is not as it was released; nothing was installed$' "$room/out" || { cat "$room/out"; exit 1; }
