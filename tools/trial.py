@@ -80,9 +80,9 @@ class Trial:
                     self.try_all(room, left)
         return self
 
-    def without_kept(self):
+    def without_kept(self, known=None):
         """The edits of which no verdict is kept; the verdicts on the others are taken over."""
-        self.state, left = self.verdicts.state(self.crate), []
+        self.state, left = self.verdicts.state(self.crate, known), []
         for edit in self.edits:
             why = self.verdicts.reason(self.verdicts.name(self.state, edit.content))
             if why is None:

@@ -40,6 +40,15 @@ def content(path):
         return os.urandom(16)
 
 
+def sources_of(folder):
+    """The sources of a crate: their paths from its folder, and their bytes."""
+    for part in PARTS:
+        for place, folders, names in os.walk(os.path.join(folder, part)):
+            folders.sort()
+            for path in (os.path.join(place, name) for name in sorted(names)):
+                yield os.path.relpath(path, folder), content(path)
+
+
 class Verdicts:
     """The kept verdicts. `kit`: the checksum of the toolchain; without it, or without a folder, none is kept. `takes`:
     whether verdicts of earlier runs are taken over."""
@@ -57,18 +66,17 @@ class Verdicts:
             except OSError:
                 pass
 
-    def state(self, crate):
-        """The checksum of all that a verdict on a mutant of this crate rests on, but the edit."""
-        sources = []
+    def state(self, crate, known=None):
+        """The checksum of all that a verdict on a mutant of this crate rests on, but the edit. `known` holds those of the
+        sources of crates that were read already, by their names."""
+        known = {} if known is None else known
         for it in (*crate.below(), crate):
-            for part in PARTS:
-                for place, folders, names in os.walk(os.path.join(it.folder, part)):
-                    folders.sort()
-                    paths = [os.path.join(place, name) for name in sorted(names)]
-                    sources += [(it.name, os.path.relpath(path, it.folder), content(path)) for path in paths]
+            if it.name not in known:
+                known[it.name] = checksum(list(sources_of(it.folder)))
         # crates/NAME lies in the folder that has crates.txt and HANDLES
         top = os.path.dirname(os.path.dirname(crate.folder))
         handles, listed = [text_of(os.path.join(top, it)) for it in ("HANDLES", "crates.txt")]
+        sources = [(it.name, known[it.name]) for it in (*crate.below(), crate)]
         return checksum(self.kit, self.judges, handles, uses(listed, crate), sources)
 
     def name(self, state, edit):

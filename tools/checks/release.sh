@@ -1,7 +1,8 @@
 #!/usr/bin/env bash
 # release.sh PROGRAM   release/ is whole, and PROGRAM, which the gate built, is the released one byte for byte where both were
 # made from the same sources by the same toolchain. In a copy, a released program of which one byte differs is found by its
-# checksum, and, with a checksum that fits it, by the comparison.
+# checksum, and, with a checksum that fits it, by the comparison. A release is made only where a verdict is kept of each
+# mutant over its sources.
 set -eu -o pipefail
 export LC_ALL=C
 here=$(cd "$(dirname "$0")/../.." && pwd)
@@ -16,12 +17,14 @@ tar --exclude=out -cf - crates | tar -xf - -C "$room/tree"
 cd "$room/tree"
 mkdir -p release
 cp "$program" release/cargo-edit
-tools/sources > release/SOURCES
+{ tools/sources && tools/sources --crates; } > release/SOURCES
 rt version > release/TOOLCHAIN
 sums() { (cd release && sha256sum cargo-edit SOURCES TOOLCHAIN > SHA256SUMS); }
-says() { # status, text
-  local status=0
-  tools/release --check "$program" > "$room/out" 2>&1 || status=$?
+says() { # status, text, arguments of tools/release
+  local status=0 arguments=(--check "$program")
+  [ $# = 2 ] || arguments=("${@:3}")
+  [ "${arguments[0]-}" != make ] || arguments=()
+  tools/release "${arguments[@]}" > "$room/out" 2>&1 || status=$?
   [ "$status" = "$1" ] && grep -q -F -- "$2" "$room/out" || { cat "$room/out"; echo "release.sh: not status $1 and: $2"; exit 1; }
 }
 sums
@@ -43,3 +46,39 @@ says 0 'the sources are newer than the released program'
 cp "$here/crates.txt" .
 rm crates/edit_cli/README.md
 says 0 'the sources are newer than the released program'
+
+# a release that would be made from these sources: no verdict is kept of their mutants, and then one of each
+mkdir -p build crates/edit_cli/out
+cp "$program" crates/edit_cli/out/edit_cli
+echo "$(tools/sources) $(sha256sum < "$program")" > build/gate
+rm -r release
+export XDG_CACHE_HOME=$room/cache
+says 1 'run tools/wrong_bodies --proved, which tries them' make
+says 1 'crates/edit_unify/wrong-bodies/lists_no_crate.edit' make
+[ ! -e release ] || { echo "release.sh: a release was made"; exit 1; }
+cat > "$room/keep.py" << 'END'
+import glob, os, sys
+sys.dont_write_bytecode = True
+sys.path.insert(0, "tools")
+from toolchain import toolchain
+from verdicts import Verdicts, usual_folder
+kit = toolchain()
+verdicts = Verdicts(kit.kit_sum(), usual_folder())
+for crate in kit.rtlib.crates_below(os.getcwd()):
+    state = verdicts.state(crate)
+    for file in glob.glob(crate.folder + "/wrong-bodies/*.edit"):
+        with open(file, encoding="utf-8") as it:
+            verdicts.keep(verdicts.name(state, it.read()), "kept by a test")
+END
+python3 "$room/keep.py"
+says 0 'release: cargo-edit' make
+says 0 'the sources give the released program, byte for byte'
+tools/sources --crates | diff - <(tail -n +2 release/SOURCES)
+[ "$(head -n 1 release/SOURCES)" = "$(tools/sources)" ]
+tools/wrong_bodies --third --kept > "$room/out"
+grep -q '^chosen: .* a third, as no crate changed since the release$' "$room/out" || { cat "$room/out"; exit 1; }
+# an edit that changed was not tried
+echo 'differs: an input' >> crates/edit_unify/wrong-bodies/lists_no_crate.edit
+echo "$(tools/sources) $(sha256sum < "$program")" > build/gate
+says 1 'crates/edit_unify/wrong-bodies/lists_no_crate.edit' make
+says 1 ' kept, 1 not' make
