@@ -146,6 +146,11 @@ class Trial:
         if verdict == "again":
             edit.apart |= why
             return True
+        if verdict == "failed" and edit.twin:
+            # (so that only what is refused is said of a twin)
+            edit.may_twin = False
+            return True
+        self.verdicts.mark(self.crate.name, edit.content, verdict != "refused")
         if verdict == "refused":
             self.passed += 1
             self.note("%s/%s: refused: %s" % (self.crate.name, os.path.basename(edit.file), why[:150]))

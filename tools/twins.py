@@ -4,7 +4,7 @@ import os
 import re
 import shutil
 
-from source import Source, blanked
+from source import Source, blanked, texts
 
 NAME = "%s_twin_%d"
 
@@ -34,16 +34,28 @@ def only(functions, name):
     return found[0] if len(found) == 1 else None
 
 
-def add_twin(source: Source, path, whole, texts, edited, name, number):
+def is_cited(folder, name):
+    """Whether another proof of the crate names the proof of a function, or its goals: that would not fit a twin."""
+    *outer, own = name.split("::")
+    proofs = os.path.join(folder, "proofs")
+    place = os.path.join(proofs, *outer, own) + os.sep
+    named = re.compile(r"\bproofs\.%s(?![\w-])" % re.escape(".".join([*outer, own])))
+    return any(named.search(text) for path, text in texts(proofs, ".antt") if not path.startswith(place))
+
+
+def add_twin(source: Source, path, whole, copied, edited, name, number):
     """The texts of a copy with a twin of the function `name` behind it, and the twin's name, or nothing. `whole`: the file
-    as the crate has it; `edited`: the same with the mutant."""
-    texts_of = (whole, edited, texts.get(path, whole))
-    own, changed, there = [only(source.functions(path, it), name) for it in texts_of]
+    as the crate has it; `copied`: the texts of the copy; `edited`: the file with the mutant."""
+    text = copied.get(path, whole)
+    own, changed, there = [only(source.functions(path, it), name) for it in (whole, edited, text)]
     if not own or not changed or not there or not may_have_twin(own, whole) or not may_have_twin(changed, edited):
         return None
+    # (the proofs of closures stand in a folder of their own)
+    *outer, last = name.split("::")
+    if os.path.isdir(os.path.join(source.folder, "proofs", *outer, "fn", last)) or is_cited(source.folder, name):
+        return None
     made = twin_of(changed, edited, number)
-    text = texts_of[2]
-    return made and ({**texts, path: text[: there.end + 1] + made[0] + text[there.end + 1:]}, made[1])
+    return made and ({**copied, path: text[: there.end + 1] + made[0] + text[there.end + 1:]}, made[1])
 
 
 def copy_proof(folder, crate, name, twin):

@@ -1,6 +1,7 @@
 """Verdicts on mutants that were refused, kept on this machine outside each checkout, so that a later run over the same files
 takes them over. A verdict is named by the checksum of all that it rests on: the kit, HANDLES, the lines of crates.txt, the
-sources of the crate and of those below, the tools that judge, and the text of the edit."""
+sources of the crate and of those below, the tools that judge, and the text of the edit. (It says something where the crate is
+proved as it stands, which each run of the gate does.) Of a mutant that was let through a mark stays until it is refused."""
 import hashlib
 import json
 import os
@@ -111,6 +112,22 @@ class Verdicts:
                 os.replace(made, os.path.join(self.folder, name))
         except OSError:
             pass
+
+    def mark(self, crate, edit, is_let_through):
+        """Remembers whether the mutant of this text, of the crate of this name, was let through when it was tried last."""
+        path = self.folder and os.path.join(self.folder, "let-through-" + checksum(crate, edit))
+        try:
+            if path and is_let_through:
+                with open(path, "a", encoding="utf-8"):
+                    os.utime(path)
+            elif path and os.path.exists(path):
+                os.unlink(path)
+        except OSError:
+            pass
+
+    def is_marked(self, crate, edit):
+        """Whether the mutant was let through when it was tried last, over these or other sources."""
+        return bool(self.folder) and os.path.exists(os.path.join(self.folder, "let-through-" + checksum(crate, edit)))
 
     def prune(self):
         """Removes what runs that were killed left, and the verdicts beyond the most that are kept."""

@@ -65,9 +65,14 @@ class Verdict(mutants.Room):
 
     def test_what_is_let_through_is_not_kept(self):
         proved = ["fn a::count: no holes"]
+        marked = lambda: Verdicts("kit", os.path.abspath("kept")).is_marked("a", COUNT)
         self.assertEqual(self.counts(lines=proved), (0, 1, 0))
-        self.assertEqual(os.listdir("kept"), [])
+        self.assertTrue(marked())
         self.assertEqual(self.counts(lines=proved), (0, 1, 0))
+        self.write("src/new.rt", "")
+        self.assertTrue(marked())
+        self.assertEqual(self.counts(), (1, 0, 0))
+        self.assertFalse(marked())
 
     def test_a_verdict_over_files_that_change_meanwhile_is_not_kept(self):
         trial = self.trial(proved=True)
@@ -128,9 +133,11 @@ class Verdict(mutants.Room):
         def sums():
             return subprocess.run(["tools/sources", "--crates"], capture_output=True, text=True, check=True).stdout
 
+        verdicts = Verdicts("kit", os.path.abspath("kept"))
+
         def count():
             with contextlib.redirect_stdout(io.StringIO()) as said:
-                chosen = wrong_bodies.only_a_third(wanted)
+                chosen = wrong_bodies.only_a_third(wanted, verdicts)
             return {it: len(files) for it, files in chosen.items()}, said.getvalue()
 
         self.assertEqual(count(), ({"a": 9, "b": 9}, "chosen: 18 of 18 mutants: all, as each crate changed since the release\n"))
@@ -139,6 +146,11 @@ class Verdict(mutants.Room):
         self.write("../../release/SOURCES", "sum\n" + sums())
         self.assertEqual(count(), ({"a": 3, "b": 3}, "chosen: 6 of 18 mutants: a third, as no crate changed since the release\n"))
         self.write("README.md", "no source\n")
+        self.assertEqual(count()[0], {"a": 3, "b": 3})
+        # what was let through is tried until it is refused (here all have one text)
+        verdicts.mark("b", COUNT, True)
+        self.assertEqual(count()[0], {"a": 3, "b": 9})
+        verdicts.mark("b", COUNT, False)
         self.assertEqual(count()[0], {"a": 3, "b": 3})
         for path in ("src/tree.rt", "specs/New.antt", "wrong-bodies/0.edit"):
             self.write(path, "other\n")
@@ -174,6 +186,24 @@ class Verdict(mutants.Room):
         for edit in (depth, depth.replace("depth", "up")):
             group, _ = together(self.trial(edits=(edit, edit.replace("0", "1"))).edits)
             self.assertEqual(len(group), 1)
+
+    def test_no_twin_where_another_proof_names_that_of_the_function(self):
+        edits = (COUNT, COUNT.replace("0", "1"))
+        self.write("proofs/Lemmas.antt", "use Rattle.a.proofs.counted.Goals as goal\n")
+        self.assertEqual(len(together(self.trial(edits=edits).edits)[0]), 2)
+        self.write("proofs/Lemmas.antt", "use Rattle.a.proofs.count.Goals as goal\n")
+        self.assertEqual(len(together(self.trial(edits=edits).edits)[0]), 1)
+
+    def test_what_is_not_refused_in_a_twin_is_tried_in_a_copy_of_its_own(self):
+        trial = self.trial(edits=(COUNT, COUNT.replace("0", "1")), proved=True)
+
+        def check(room, texts, edits):
+            trial.checked.append([it.twin for it in edits])
+            twin = ["fn a::count_twin_2: no holes"] if any(it.twin for it in edits) else []
+            return Report("\n".join([OPEN, *twin, ENDED]), "a", self.folder)
+
+        trial.check = check
+        self.assertEqual((trial.run().passed, trial.failed, trial.checked), (2, 0, [[None, "count_twin_2"], [None]]))
 
     def test_twins_that_are_not_read_stand_in_a_further_copy(self):
         lines = [OPEN]
