@@ -1,0 +1,4 @@
+pub mod ListLemmas
+pub mod GroupLemmas
+pub mod CorrectionLemmas
+pub mod LookupLemmas

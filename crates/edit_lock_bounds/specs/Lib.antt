@@ -1,0 +1,9 @@
+pub mod LockPackages
+pub mod Changes
+pub mod Choices
+pub mod Corrections
+pub mod Lookups
+pub mod Views
+pub mod LookupViews
+pub mod CorrectionViews
+pub mod CorrectionLaws
