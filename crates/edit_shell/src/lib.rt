@@ -2,13 +2,13 @@
 #![tactic(auto)]
 
 ghost use Rattle.std.specs.Prelude.{◌≡◌, ◌++◌, ◌∷◌, [], OnOk, codes, map, string_bytes};
-ghost use Rattle.std.specs.List.{flat_map};
-ghost use Rattle.edit_shell.specs.Quoting.{argument_text, assignment_text, escape_of, quoted};
+ghost use Rattle.std.specs.List.{flat_map, list_all};
+ghost use Rattle.edit_shell.specs.Quoting.{argument_text, assignment_text, escape_of, is_plain, is_plain_word, quoted, word_text};
 
 use std::alloc::AllocError;
 
-/// Adds a byte as it stands in single quotes. A single quote ends them, stands behind a backslash, and begins
-/// them anew.
+/// Adds a byte as it stands in single quotes. A single quote ends them, stands behind a backslash, and
+/// begins them anew.
 fn push_escaped(text: &mut Vec<u8>, byte: u8) -> Result<(), AllocError>
     ensures { OnOk result (text.new.items ≡ text.old.items ++ escape_of byte) }
 {
@@ -68,4 +68,41 @@ pub fn push_arguments(text: &mut Vec<u8>, arguments: &[String]) -> Result<(), Al
     }
     text.push(b'\n')?;
     Ok(())
+}
+
+/// Whether a byte stands for itself outside of quotes.
+fn is_plain(byte: u8) -> bool
+    ensures { result ≡ is_plain byte }
+{
+    byte.is_ascii_alphanumeric()
+        || matches!(
+            byte,
+            b'%' | b'+' | b',' | b'-' | b'.' | b'/' | b':' | b'=' | b'@' | b'_'
+        )
+}
+
+/// Whether all bytes of a text stand for themselves outside of quotes.
+fn is_plain_text(text: &str) -> bool
+    ensures { result ≡ list_all is_plain text.now }
+{
+    text.as_bytes().iter().all(|byte| is_plain(*byte))
+}
+
+/// Whether a shell reads a text as one argument without quotes.
+fn is_plain_word(word: &str) -> bool
+    ensures { result ≡ is_plain_word word.now }
+{
+    !word.is_empty() && is_plain_text(word)
+}
+
+/// Adds an argument as people write it: in single quotes only where it needs them.
+pub fn push_word(text: &mut Vec<u8>, word: &str) -> Result<(), AllocError>
+    ensures { OnOk result (text.new.items ≡ text.old.items ++ word_text word.now) }
+{
+    if is_plain_word(word) {
+        text.extend_from_slice(word.as_bytes())?;
+        Ok(())
+    } else {
+        push_quoted(text, word)
+    }
 }

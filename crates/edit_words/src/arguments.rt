@@ -150,20 +150,20 @@ fn choices<'a>() -> [ArgSpec<'a>; 6]
         plain(
             "compatible",
             Form::Choice("allow|ignore"),
-            "Upgrades to the latest compatible version",
+            "Upgrades to the latest compatible version [without a value: allow]",
         )
         .default_value("allow"),
         plain(
             "incompatible",
             Form::Choice("allow|ignore"),
-            "Upgrades to the latest incompatible version",
+            "Upgrades to the latest incompatible version [without a value: allow]",
         )
         .short('i')
         .default_value("ignore"),
         plain(
             "pinned",
             Form::Choice("allow|ignore"),
-            "Upgrades pinned requirements to the latest version",
+            "Upgrades pinned requirements to the latest version [without a value: allow]",
         )
         .default_value("ignore"),
         plain(
@@ -179,7 +179,7 @@ fn choices<'a>() -> [ArgSpec<'a>; 6]
         plain(
             "recursive",
             Form::Truth("true|false"),
-            "Updates locked dependencies recursively",
+            "Updates locked dependencies recursively [without a value: true]",
         ),
     ]
 }
@@ -224,6 +224,10 @@ fn upgrade_command<'a>(
     with_args(alloc, command, &selections())
 }
 
+/// What help says of the subcommand that `clap` does not parse.
+const MORE: &str =
+    "More commands:\n  plan  Answers a request in JSON (see `cargo-edit plan --help`)";
+
 /// The program's command line, made anew for each parse, which takes it over. Its help and its version are
 /// texts of which no clause speaks; fails for want of memory alone.
 pub fn command<'a>(alloc: Global) -> Result<Command<'a>, AllocError>
@@ -236,6 +240,7 @@ pub fn command<'a>(alloc: Global) -> Result<Command<'a>, AllocError>
     Command::new(alloc, "cargo-edit")
         .version("0.1.0 (behaves as cargo-edit 0.13.14)")
         .about("Edits the dependency requirements and versions of Cargo.toml files")
+        .after_help(MORE)
         .no_binary_name(true)
         .bin_name("cargo-edit")?
         .propagate_version(true)

@@ -1,21 +1,50 @@
 //! Words with the values that are left out of them.
 ghost use Rattle.std.specs.Prelude.{◌≡◌, ◌++◌, ◌∷◌, ◌||◌, IfOk, codes, false, OnOk, map, option_map};
-ghost use Rattle.std.specs.List.{list_any};
+ghost use Rattle.std.specs.List.{list_all, list_any};
 ghost use Rattle.std.specs.Option.{option_map_or};
 ghost use Rattle.std.specs.Str.{bytes_eq};
-ghost use Rattle.edit_words.specs.Filled.{inserted_values, insert_defaults, is_one, missing_value, values_behind};
+ghost use Rattle.edit_words.specs.Filled.{inserted_values, insert_defaults, is_flag_letter, is_group, is_one, missing_value, statuses, values_behind};
 
 use std::alloc::{AllocError, Global};
+
+/// Whether a byte is the letter of a flag of `upgrade`.
+fn is_flag_letter(byte: u8) -> bool
+    ensures { result ≡ is_flag_letter byte }
+{
+    byte == b'n' || byte == b'q' || byte == b'v'
+}
+
+/// Whether bytes are letters of flags alone.
+fn are_flag_letters(bytes: &[u8]) -> bool
+    ensures { result ≡ list_all is_flag_letter bytes.now }
+{
+    bytes.iter().all(|byte| is_flag_letter(*byte))
+}
+
+/// Whether an argument has flags of one letter and then `-i` behind one `-`, as `-ni`.
+fn is_group(arg: &str) -> bool
+    ensures { result ≡ is_group arg.now }
+{
+    let bytes = arg.as_bytes();
+    let n = bytes.len();
+    3 <= n && bytes[0] == b'-' && bytes[n - 1] == b'i' && are_flag_letters(&bytes[1..n - 1])
+}
+
+/// The values that allow or ignore a kind of upgrade.
+fn statuses() -> &'static [&'static str]
+    ensures { map (λ v. v.now) result.now ≡ statuses }
+{
+    &["allow", "true", "ignore", "false"]
+}
 
 /// The values of an option that may stand without one; the first of them is the one that it then has.
 fn values_behind(arg: &str) -> &'static [&'static str]
     ensures { map (λ v. v.now) result.now ≡ values_behind arg.now }
 {
     match arg {
-        "--compatible" | "-i" | "--incompatible" | "--pinned" => {
-            &["allow", "true", "ignore", "false"]
-        }
+        "--compatible" | "-i" | "--incompatible" | "--pinned" => statuses(),
         "--recursive" => &["true", "false"],
+        _ if is_group(arg) => statuses(),
         _ => &[],
     }
 }

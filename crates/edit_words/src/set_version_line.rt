@@ -9,6 +9,10 @@ use crate::rules::{ArgSpec, Form, plain, with_args};
 use clap::Command;
 use std::alloc::{AllocError, Global};
 
+/// What help says of `--bump`.
+const BUMP: &str =
+    "Increment manifest version [possible values: major, minor, patch, release, rc, beta, alpha]";
+
 /// What says which versions are set, and the options that name files.
 fn targets<'a>() -> [ArgSpec<'a>; 5]
     ensures { map arg_rule result ≡ targets ++ sources }
@@ -19,7 +23,7 @@ fn targets<'a>() -> [ArgSpec<'a>; 5]
             Form::Alone("TARGET"),
             "Version to change manifests to",
         ),
-        plain("bump", Form::Choice("LEVEL"), "Increment manifest version"),
+        plain("bump", Form::Choice("LEVEL"), BUMP),
         plain(
             "metadata",
             Form::Choice("METADATA"),
