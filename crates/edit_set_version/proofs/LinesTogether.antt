@@ -3,7 +3,7 @@ use Rattle.std.proofs.Common.{◌≡◌, ◌∙◌, ℕ, suc, arith, List, [], �
 use Rattle.std.specs.List.{filter_map, flat_map}
 use Rattle.std.proofs.lemmas.List.{append_assoc}
 use Rattle.edit_set_version.specs.Dependents.{all_numbered}
-use Rattle.edit_set_version.specs.PlanLines.{Named, ReportLine, lines_of, manifests, updates}
+use Rattle.edit_set_version.specs.PlanLines.{Named, Reported, lines_of, manifests, updates}
 use Rattle.edit_set_version.specs.SetVersioned.{Bump, Project, dependents}
 use Rattle.edit_set_version.specs.LineViews.{bump_line_view, dependent_number, manifest_lines_view, update_line_view, update_lines_view, with_manifests}
 use Rattle.edit_set_version.proofs.GroupedBumps.{alone_dependents}
@@ -12,14 +12,14 @@ use Rattle.edit_set_version.specs.Apart.{AreApart}
 -- the lines of a manifest for the bump with a number
 updates_are : (all before : List Bump) (b : Bump) (rest : List Bump) (n : ℕ) → all ≡ before ++ b ∷ rest
     → n ≡ length before → AreApart all → (m : Named)
-    → update_lines_view m.name (all_numbered all m.path m.tree) n ≡ updates b m
+    → update_lines_view (m.name, m.path) (all_numbered all m.path m.tree) n ≡ updates b m
 updates_are all before b rest n is at apart m =
     let with_bump_index : dependents (b ∷ []) m.path m.tree
     ≡ filter_map (dependent_number n) (all_numbered all m.path m.tree)
     = alone_dependents before b rest m.path m.tree (subst AreApart is apart)
     ∙ ap (λ k. filter_map (dependent_number k) (all_numbered (before ++ b ∷ rest) m.path m.tree)) (sym at)
     ∙ ap (λ bs. filter_map (dependent_number n) (all_numbered bs m.path m.tree)) (sym is) in
-    ap (filter_map (update_line_view m.name)) (sym with_bump_index)
+    ap (filter_map (update_line_view (m.name, m.path))) (sym with_bump_index)
 
 -- the lines of all manifests
 lines_are : (all before : List Bump) (b : Bump) (rest : List Bump) (n : ℕ) → all ≡ before ++ b ∷ rest
@@ -49,7 +49,7 @@ pub lists_together : (p : Project) (bs : List Bump) → AreApart bs
 lists_together p bs apart = lists_are bs p [] bs 0 refl refl apart
 
 -- lists in a row
-in_a_row : {X : Type 0} (f : X → List ReportLine) (xs : List X) → flat_map (λ l. l) (map f xs) ≡ flat_map f xs
+in_a_row : {X : Type 0} (f : X → List Reported) (xs : List X) → flat_map (λ l. l) (map f xs) ≡ flat_map f xs
 in_a_row f [] = refl
 in_a_row f (x ∷ xs) = ap (λ ls. f x ++ ls) (in_a_row f xs)
 

@@ -12,14 +12,14 @@ use Rattle.edit_set_version.specs.Crates.{member_of, members_of}
 use Rattle.edit_set_version.specs.declared.crates.Crate.{Crate}
 use Rattle.edit_set_version.specs.Dependents.{all_numbered}
 use Rattle.edit_set_version.specs.PlanCauses.{AllRiseIn, AreUnraised, IsUnraised}
-use Rattle.edit_set_version.specs.PlanLines.{Named, ReportLine}
+use Rattle.edit_set_version.specs.PlanLines.{Named, Reported}
 use Rattle.edit_set_version.specs.SetVersioned.{Bump}
 use Rattle.edit_set_version.specs.LineViews.{manifest_lines_view, named_member, other_manifests, update_lines_view, with_manifests, with_more, with_updates}
 use Rattle.edit_base.proofs.FirstCauseLemmas.{first_before, first_behind, split_at}
 
 -- lines in two parts
-more_in_parts : (f g h : ℕ → List ReportLine) → ((k : ℕ) → h k ≡ f k ++ g k)
-    → (n : ℕ) (ls : List (List ReportLine))
+more_in_parts : (f g h : ℕ → List Reported) → ((k : ℕ) → h k ≡ f k ++ g k)
+    → (n : ℕ) (ls : List (List Reported))
     → with_more h n ls ≡ with_more g n (with_more f n ls)
 more_in_parts f g h same n [] = refl
 more_in_parts f g h same n (l ∷ ls) =
@@ -28,7 +28,7 @@ more_in_parts f g h same n (l ∷ ls) =
     ∙ ap (λ xs. ((l ++ f n) ++ g n) ∷ xs) (more_in_parts f g h same (suc n) ls)
 
 -- the lines are equal
-more_same : (f g : ℕ → List ReportLine) → ((k : ℕ) → f k ≡ g k) → (n : ℕ) (ls : List (List ReportLine))
+more_same : (f g : ℕ → List Reported) → ((k : ℕ) → f k ≡ g k) → (n : ℕ) (ls : List (List Reported))
     → with_more f n ls ≡ with_more g n ls
 more_same f g same n [] = refl
 more_same f g same n (l ∷ ls) =
@@ -39,26 +39,26 @@ lines_append : (bs : List Bump) (xs ys : List Named) (n : ℕ)
     → manifest_lines_view bs (xs ++ ys) n ≡ manifest_lines_view bs xs n ++ manifest_lines_view bs ys n
 lines_append bs [] ys n = refl
 lines_append bs (x ∷ xs) ys n =
-    ap (λ us. update_lines_view x.name (all_numbered bs x.path x.tree) n ++ us) (lines_append bs xs ys n)
-    ∙ sym (append_assoc (update_lines_view x.name (all_numbered bs x.path x.tree) n) (manifest_lines_view bs xs n)
+    ap (λ us. update_lines_view (x.name, x.path) (all_numbered bs x.path x.tree) n ++ us) (lines_append bs xs ys n)
+    ∙ sym (append_assoc (update_lines_view (x.name, x.path) (all_numbered bs x.path x.tree) n) (manifest_lines_view bs xs n)
     (manifest_lines_view bs ys n))
 
 -- manifests in two parts
-pub manifests_in_parts : (bs : List Bump) (xs ys : List Named) (n : ℕ) (ls : List (List ReportLine))
+pub manifests_in_parts : (bs : List Bump) (xs ys : List Named) (n : ℕ) (ls : List (List Reported))
     → with_manifests bs (xs ++ ys) n ls ≡ with_manifests bs ys n (with_manifests bs xs n ls)
 manifests_in_parts bs xs ys n ls =
     more_in_parts (manifest_lines_view bs xs) (manifest_lines_view bs ys) (manifest_lines_view bs (xs ++ ys))
     (lines_append bs xs ys) n ls
 
 -- one manifest
-pub one_manifest : (bs : List Bump) (m : Named) (n : ℕ) (ls : List (List ReportLine))
-    → with_updates m.name (all_numbered bs m.path m.tree) n ls ≡ with_manifests bs (m ∷ []) n ls
+pub one_manifest : (bs : List Bump) (m : Named) (n : ℕ) (ls : List (List Reported))
+    → with_updates (m.name, m.path) (all_numbered bs m.path m.tree) n ls ≡ with_manifests bs (m ∷ []) n ls
 one_manifest bs m n ls =
-    more_same (update_lines_view m.name (all_numbered bs m.path m.tree)) (manifest_lines_view bs (m ∷ []))
-    (λ k. sym (append-nil (update_lines_view m.name (all_numbered bs m.path m.tree) k))) n ls
+    more_same (update_lines_view (m.name, m.path) (all_numbered bs m.path m.tree)) (manifest_lines_view bs (m ∷ []))
+    (λ k. sym (append-nil (update_lines_view (m.name, m.path) (all_numbered bs m.path m.tree) k))) n ls
 
 -- none
-pub no_manifests : (bs : List Bump) (n : ℕ) (ls : List (List ReportLine)) → with_manifests bs [] n ls ≡ ls
+pub no_manifests : (bs : List Bump) (n : ℕ) (ls : List (List Reported)) → with_manifests bs [] n ls ≡ ls
 no_manifests bs n [] = refl
 no_manifests bs n (l ∷ ls) =
     ap (λ x. x ∷ with_manifests bs [] (suc n) ls) (append-nil l)

@@ -107,11 +107,11 @@ set_for is os r s m n bs cs root next same all =
 
 -- and so are the lines
 pub lines_for : (p : Project) (a b m n : Option Parts) (bs cs : List Bump) → a ≡ b → m ≡ n → bs ≡ cs
-    → shared_lines a m ++ flat_map (lines_of p) bs ≡ shared_lines b n ++ flat_map (lines_of p) cs
+    → shared_lines p.path a m ++ flat_map (lines_of p) bs ≡ shared_lines p.path b n ++ flat_map (lines_of p) cs
 lines_for p a b m n bs cs old next same =
-    ap (λ (o : Option Parts). shared_lines o m ++ flat_map (lines_of p) bs) old
-    ∙ ap (λ (o : Option Parts). shared_lines b o ++ flat_map (lines_of p) bs) next
-    ∙ ap (λ (xs : List Bump). shared_lines b n ++ flat_map (lines_of p) xs) same
+    ap (λ (o : Option Parts). shared_lines p.path o m ++ flat_map (lines_of p) bs) old
+    ∙ ap (λ (o : Option Parts). shared_lines p.path b o ++ flat_map (lines_of p) bs) next
+    ∙ ap (λ (xs : List Bump). shared_lines p.path b n ++ flat_map (lines_of p) xs) same
 
 -- where the workspace gets a next version, its root has the current one
 pub tells_shared : (t : Target) (a : SelectionView) (w : WorkspaceModel) (is : List Input) (p : Project)
@@ -169,12 +169,12 @@ has_admitted t a outputs p input versions clear set =
     (λ tree left. dependents_admit t a p path (view_at set.form) tree versions rise left) set.are in
     record { form = after.form; manifest = after.manifest; admit = after.holds }
 
--- what five facts of a call make together, where it succeeds
-pub where_all : {T E : Type 0} (r : Result T E) (P Q R S : T → Type 0) (X : Type 0) (Z : T → Type 0)
-    → ((x : T) → P x → Q x → R x → S x → X → Z x)
-    → IfOk r P → IfOk r Q → IfOk r R → IfOk r S → OnOk r X → IfOk r Z
-where_all (Ok x) P Q R S X Z h a b c d e = h x a b c d e
-where_all (Err e) P Q R S X Z h a b c d f = tt
+-- what six facts of a call make together, where it succeeds
+pub where_all : {T E : Type 0} (r : Result T E) (P Q R S Y : T → Type 0) (X : Type 0) (Z : T → Type 0)
+    → ((x : T) → P x → Q x → R x → S x → Y x → X → Z x)
+    → IfOk r P → IfOk r Q → IfOk r R → IfOk r S → IfOk r Y → OnOk r X → IfOk r Z
+where_all (Ok x) P Q R S Y X Z h a b c d e f = h x a b c d e f
+where_all (Err e) P Q R S Y X Z h a b c d f g = tt
 
 -- what holds where a call fails
 pub where_err : {T E : Type 0} (r : Result T E) (P Q : E → Type 0) → ((e : E) → P e → Q e) → IfErr r P

@@ -10,8 +10,9 @@ use Rattle.edit_tree.specs.Tree.{view_at}
 use Rattle.edit_set_version.specs.Bumps.{by_level}
 use Rattle.edit_set_version.specs.Chosen.{SelectionView, Member, bumps_workspace, chosen_members, excluded_inheriting, inheriting_members, missing}
 use Rattle.edit_manifest.specs.Tables.{Tree}
+use Rattle.edit_manifest.specs.Versions.{is_inherited}
 use Rattle.edit_set_version.specs.Folders.{folder_of, resolve_folder, same_folder}
-use Rattle.edit_set_version.specs.PlanLines.{note_of}
+use Rattle.edit_set_version.specs.PlanLines.{note_if}
 use Rattle.edit_set_version.specs.SetVersioned.{Project, bumps, dependents}
 use Rattle.edit_set_version.specs.declared.set_version.BumpLevel.TheVariants as level
 
@@ -154,7 +155,7 @@ drawn_workspace = refl
 only_a_stays : bumps_workspace only_a (d ∷ a ∷ c ∷ []) ≡ false
 only_a_stays = refl
 
-note : note_of c ≡ codes " (inherited from workspace)"
+note : note_if (is_inherited c.tree) ≡ codes " (inherited from workspace)"
 note = refl
 
 -- an excluded one that would be bumped with the workspace

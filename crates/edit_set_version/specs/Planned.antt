@@ -11,7 +11,8 @@ use Rattle.edit_report.specs.declared.output.Output.{Output}
 use Rattle.edit_set_version.specs.Bumps.{Target}
 use Rattle.edit_set_version.specs.Chosen.{SelectionView}
 use Rattle.edit_set_version.specs.Admitted.{AllAdmitNext}
-use Rattle.edit_set_version.specs.PlanLines.{ReportLine}
+use Rattle.edit_set_version.specs.LineViews.{change_view}
+use Rattle.edit_set_version.specs.PlanLines.{ChangeParts, ReportLine}
 use Rattle.edit_metadata.specs.Inputs.{path_of}
 use Rattle.edit_set_version.specs.SetVersioned.{Bump, Project, bumps, edits_by, workspace_next}
 use Rattle.edit_set_version.specs.declared.plan.SetVersionPlan.{SetVersionPlan}
@@ -59,6 +60,10 @@ HasSetOutputs t a outputs p input =
 -- the lines, by their texts
 abbrev pub plan_lines_view : SetVersionPlan → List ReportLine
 plan_lines_view plan = map (λ l. (string_bytes l.0, string_bytes l.1)) plan.lines.items
+
+-- what the lines say, in parts
+abbrev pub plan_changes_view : SetVersionPlan → List ChangeParts
+plan_changes_view plan = map change_view plan.changes.items
 
 -- the plan has lines
 abbrev pub has_lines : SetVersionPlan → Bool

@@ -2,11 +2,11 @@
 ghost use Rattle.std.specs.Prelude.{◌≡◌, ◌∷◌, [], All, IfOk, OnOk, map};
 ghost use Rattle.edit_set_version.specs.Crates.{bumps_view};
 ghost use Rattle.edit_set_version.specs.Dependents.{HasRaisedText, numbered_dependent_view};
-ghost use Rattle.edit_set_version.specs.LineViews.{bump_line_view, report_line_view, line_lists_view, with_line, with_updates};
+ghost use Rattle.edit_set_version.specs.LineViews.{bump_line_view, line_view, line_lists_view, owner_view, with_line, with_updates};
 
 use crate::crates::Bump;
 use crate::dependents::DependentEntry;
-use crate::lines::{Line, bump_line, updating_line};
+use crate::lines::{Line, Owner, bump_line, updating_line};
 use std::alloc::{AllocError, Global};
 
 /// A list of lines for each bump, in the order of the bumps, which holds the bump's own line.
@@ -27,7 +27,7 @@ pub(crate) fn bump_lists(alloc: Global, bumps: &[Bump<'_>]) -> Result<Vec<Vec<Li
 /// Appends a line to the list at an index.
 fn push_line(lists: &mut Vec<Vec<Line>>, number: usize, line: Line) -> Result<(), AllocError>
     ensures ok { OnOk result (line_lists_view lists.new.items
-        ≡ with_line number (report_line_view line) (line_lists_view lists.old.items)) }
+        ≡ with_line number (line_view line) (line_lists_view lists.old.items)) }
 {
     if number >= lists.len() {
         return Ok(());
@@ -40,17 +40,17 @@ fn push_line(lists: &mut Vec<Vec<Line>>, number: usize, line: Line) -> Result<()
 /// changes.
 fn push_update(
     alloc: Global,
-    name: &str,
+    owner: Owner<'_>,
     dependent: &DependentEntry<'_>,
     lists: &mut Vec<Vec<Line>>,
 ) -> Result<(), AllocError>
     ensures ok { OnOk result (HasRaisedText dependent.now → line_lists_view lists.new.items
-        ≡ with_updates name.now (numbered_dependent_view dependent.now ∷ []) 0
+        ≡ with_updates (owner_view owner.entry) (numbered_dependent_view dependent.now ∷ []) 0
         (line_lists_view lists.old.items)) }
 {
     match &dependent.risen {
         Some(new) => {
-            let line = updating_line(alloc, name, dependent.text.as_str(), new.as_str())?;
+            let line = updating_line(alloc, owner, dependent.text.as_str(), new.as_str())?;
             push_line(lists, dependent.bump.number, line)?;
             Ok(())
         }
@@ -61,16 +61,16 @@ fn push_update(
 /// Appends the lines of a manifest's requirements on bumped crates, each to the list of its bump.
 pub(crate) fn push_updates(
     alloc: Global,
-    name: &str,
+    owner: Owner<'_>,
     dependents: &[DependentEntry<'_>],
     lists: &mut Vec<Vec<Line>>,
 ) -> Result<(), AllocError>
     ensures ok { OnOk result (All HasRaisedText dependents.now → line_lists_view lists.new.items
-        ≡ with_updates name.now (map numbered_dependent_view dependents.now) 0
+        ≡ with_updates (owner_view owner.entry) (map numbered_dependent_view dependents.now) 0
         (line_lists_view lists.old.items)) }
 {
     'dependents: for dependent in dependents {
-        push_update(alloc, name, dependent, lists)?;
+        push_update(alloc, owner, dependent, lists)?;
     }
     Ok(())
 }

@@ -26,6 +26,6 @@ mod walk;
 mod writes;
 
 pub use path_deps::{PathEntry, path_entries};
-pub use plan::{Selection, SetVersionPlan};
+pub use plan::{ChangeKind, Selection, SetVersionPlan, VersionChange};
 pub use planned::plan_set_version;
 pub use set_version::{BumpLevel, TargetVersion};

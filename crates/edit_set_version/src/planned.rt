@@ -1,5 +1,5 @@
 //! The plan of new versions for the members of a workspace.
-ghost use Rattle.std.specs.Prelude.{◌≡◌, ◌⊎◌, ◌++◌, [], All, IfErr, IfOk, OnOk, option_map};
+ghost use Rattle.std.specs.Prelude.{◌≡◌, ◌⊎◌, ◌++◌, [], All, IfErr, IfOk, OnOk, map, option_map};
 ghost use Rattle.std.specs.List.{AllZip, flat_map};
 ghost use Rattle.semver.specs.Identifiers.{parts_of};
 ghost use Rattle.edit_base.specs.Errors.{IsMemory};
@@ -15,7 +15,7 @@ ghost use Rattle.edit_set_version.specs.PlanCauses.{IsManifestError, IsVersionEr
 ghost use Rattle.edit_set_version.specs.Plan.{IsPlan};
 ghost use Rattle.edit_set_version.specs.PlanLines.{lines_of, manifests, shared_lines};
 ghost use Rattle.edit_set_version.specs.PlanRefused.{IsCauseOf, IsInputClearBy};
-ghost use Rattle.edit_set_version.specs.Planned.{HasOutputsBy, OutputsInOrder, has_lines, plan_lines_view};
+ghost use Rattle.edit_set_version.specs.Planned.{HasOutputsBy, OutputsInOrder, has_lines, plan_changes_view, plan_lines_view};
 ghost use Rattle.edit_set_version.specs.Projects.{AreInputsOf, HasProject, IsManifestAmong};
 ghost use Rattle.edit_set_version.specs.Selections.{selection_view};
 ghost use Rattle.edit_set_version.specs.SetVersioned.{bumps, workspace_current, workspace_next};
@@ -31,7 +31,7 @@ use crate::numbers::index_bumps;
 use crate::outputs::{PlannedWrites, outputs_of};
 use crate::plan::{Selection, SetVersionPlan};
 use crate::project::{ProjectRead, project_of};
-use crate::rows::plan_lines;
+use crate::rows::{plan_lines, split_lines};
 use crate::set_version::TargetVersion;
 use crate::shared::{current_workspace_version, next_workspace_version};
 use edit_base::CargoResult;
@@ -104,8 +104,13 @@ fn plan_with(
         inputs.now) }
     ensures in_order { IfOk result (λ plan. OutputsInOrder inputs.now plan.outputs.items) }
     ensures lines { IfOk result (λ plan. plan_lines_view plan
-        ≡ shared_lines (option_map parts_of versions.now.current) (option_map parts_of versions.now.next)
-        ++ flat_map (lines_of (project_view project.now)) (bumps_view versions.now.bumps.items)) }
+        ≡ map (λ l. l.0) (shared_lines (project_view project.now).path
+        (option_map parts_of versions.now.current) (option_map parts_of versions.now.next)
+        ++ flat_map (lines_of (project_view project.now)) (bumps_view versions.now.bumps.items))) }
+    ensures changes { IfOk result (λ plan. plan_changes_view plan
+        ≡ map (λ l. l.1) (shared_lines (project_view project.now).path
+        (option_map parts_of versions.now.current) (option_map parts_of versions.now.next)
+        ++ flat_map (lines_of (project_view project.now)) (bumps_view versions.now.bumps.items))) }
     ensures changed { IfOk result (λ plan. plan.changed ≡ has_lines plan) }
     ensures clear { OnOk result (All (IsInputClearBy (bumps_view versions.now.bumps.items)) inputs.now) }
     ensures error { IfErr result (λ e. IsMemory e ⊎ IsManifestError (bumps_view versions.now.bumps.items)
@@ -123,10 +128,12 @@ fn plan_with(
     check_literals(alloc, &writing, inputs, read)?;
     let lines = plan_lines(alloc, &numbers, project, &versions.bumps, old, next)?;
     let outputs = outputs_of(alloc, &writing, inputs, read)?;
-    let changed = !lines.is_empty();
+    let lines = split_lines(alloc, lines)?;
+    let changed = !lines.texts.is_empty();
     Ok(SetVersionPlan {
         outputs,
-        lines,
+        lines: lines.texts,
+        changes: lines.changes,
         changed,
     })
 }

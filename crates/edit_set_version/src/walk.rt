@@ -14,7 +14,7 @@ ghost use Rattle.edit_tree.specs.DocumentViews.{tree_of};
 use crate::bump_lines::{bump_lists, push_updates};
 use crate::crates::{Bump, Crate};
 use crate::dependents::dependents_of;
-use crate::lines::Line;
+use crate::lines::{Line, Owner};
 use crate::numbers::BumpsByFolder;
 use crate::project::ProjectRead;
 use edit_base::CargoResult;
@@ -43,7 +43,11 @@ fn push_manifest(
         → IsMemory e ⊎ IsUnraised bs (path_of input.now) (tree_of manifest.now.document) e) }
 {
     let dependents = dependents_of(alloc, numbers, input.path.as_str(), &manifest.document)?;
-    push_updates(alloc, name, &dependents, lists)?;
+    let owner = Owner {
+        name,
+        path: input.path.as_str(),
+    };
+    push_updates(alloc, owner, &dependents, lists)?;
     Ok(())
 }
 

@@ -45,6 +45,8 @@ field_none (field.Text text) = refl
 field_none (field.Maybe None) = refl
 field_none (field.Maybe (Some text)) = refl
 field_none (field.Truth truth) = refl
+field_none (field.Number None) = refl
+field_none (field.Number (Some n)) = refl
 field_none (field.Texts texts) = items text_data (λ _. refl) texts.now
 field_none (field.Lists lists) = items (λ l. list_data text_data l.items)
     (λ l. items text_data (λ _. refl) l.items) lists.now

@@ -18,6 +18,11 @@ abbrev pub text_or_null : Option (List ℕ) → Data
 text_or_null None = null
 text_or_null (Some text) = string text
 
+-- a number, or null where there is none (own)
+abbrev pub number_or_null : Option ℕ → Data
+number_or_null None = null
+number_or_null (Some n) = number (unsigned n)
+
 -- an array (own)
 abbrev pub list_data : {A : Type 0} → (A → Data) → List A → Data
 list_data of xs = array (items_of (map of xs))
@@ -32,6 +37,7 @@ abbrev pub field_data : Field → Data
 field_data (field.Text text) = string text.now
 field_data (field.Maybe text) = text_or_null (option_map (λ t. t.now) text)
 field_data (field.Truth truth) = boolean truth
+field_data (field.Number n) = number_or_null n
 field_data (field.Texts texts) = list_data text_data texts.now
 field_data (field.Lists lists) = list_data (λ l. list_data text_data l.items) lists.now
 field_data (field.Place steps) = list_data step_data steps.now

@@ -9,8 +9,9 @@ use Rattle.edit_report.specs.declared.row.Change.TheVariants as change
 use Rattle.edit_report.specs.declared.row.Reason.{Reason}
 use Rattle.edit_report.specs.declared.row.Reason.TheVariants as reason
 use Rattle.edit_report.specs.declared.row.Row.{Row}
-use Rattle.edit_shown.specs.Fields.{list_data, step_data, text_data, text_or_null}
+use Rattle.edit_shown.specs.Fields.{list_data, number_or_null, step_data, text_data, text_or_null}
 use Rattle.edit_shown.specs.declared.held_back.HeldBack.{HeldBack}
+use Rattle.edit_shown.specs.declared.json.errors.ErrorParts.{ErrorParts}
 use Rattle.edit_shown.specs.declared.json.messages.Summary.{Summary}
 
 -- members by their keys (own)
@@ -112,4 +113,16 @@ change_members action message =
     (codes "reason", string (codes "set-version-change"))
     ∷ (codes "action", string action)
     ∷ (codes "message", string message)
+    ∷ []
+
+-- an error: its number and its message, and what else is known of it (own)
+abbrev pub error_members : ErrorParts → MessageMembers
+error_members parts =
+    (codes "reason", string (codes "error"))
+    ∷ (codes "number", number_or_null parts.number)
+    ∷ (codes "message", string parts.message.now)
+    ∷ (codes "place", text_or_null (option_map (λ t. t.now) parts.place))
+    ∷ (codes "excerpt", text_or_null (option_map (λ t. t.now) parts.excerpt))
+    ∷ (codes "cause", text_or_null (option_map (λ t. t.now) parts.cause))
+    ∷ (codes "help", text_or_null (option_map (λ t. t.now) parts.help))
     ∷ []

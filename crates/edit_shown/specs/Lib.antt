@@ -6,6 +6,7 @@ pub mod LineKinds
 pub mod Names
 pub mod ShownLines
 pub mod Unified
+pub mod VersionChanges
 pub mod Fields
 pub mod JsonMessages
 pub mod Markdown

@@ -1,7 +1,7 @@
 //! The members of a message.
 ghost use Rattle.std.specs.Prelude.{◌≡◌, IfOk, option_map};
 ghost use Rattle.serde_json.specs.View.{view};
-ghost use Rattle.edit_shown.specs.Fields.{field_data, list_data, step_data, text_data, text_or_null};
+ghost use Rattle.edit_shown.specs.Fields.{field_data, list_data, number_or_null, step_data, text_data, text_or_null};
 
 use edit_document::Step;
 use serde_json::{Value, push};
@@ -13,6 +13,7 @@ pub(crate) enum Field<'a> {
     Text(&'a str),
     Maybe(Option<&'a str>),
     Truth(bool),
+    Number(Option<u32>),
     Texts(&'a [String]),
     Lists(&'a [Vec<String>]),
     Place(&'a [Step]),
@@ -78,6 +79,16 @@ fn text_or_null(alloc: Global, text: Option<&str>) -> Result<Value, AllocError>
     }
 }
 
+/// A number, or null where there is none.
+fn number_or_null(number: Option<u32>) -> Value
+    ensures { view result ≡ number_or_null number }
+{
+    match number {
+        Some(number) => Value::from(number),
+        None => Value::Null,
+    }
+}
+
 /// The value of a member, as JSON.
 pub(crate) fn value_of(alloc: Global, field: Field<'_>) -> Result<Value, AllocError>
     ensures { IfOk result (λ v. view v ≡ field_data field.entry) }
@@ -86,6 +97,7 @@ pub(crate) fn value_of(alloc: Global, field: Field<'_>) -> Result<Value, AllocEr
         Field::Text(text) => Value::try_from_str(alloc, text),
         Field::Maybe(text) => text_or_null(alloc, text),
         Field::Truth(truth) => Ok(Value::Bool(truth)),
+        Field::Number(number) => Ok(number_or_null(number)),
         Field::Texts(texts) => texts_value(alloc, texts),
         Field::Lists(lists) => lists_value(alloc, lists),
         Field::Place(steps) => place_value(alloc, steps),

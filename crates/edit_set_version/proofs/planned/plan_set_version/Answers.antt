@@ -1,4 +1,4 @@
-use Rattle.std.proofs.Common.{◌≡◌, ◌⊎◌, ◌∙◌, ◌++◌, List, ap, inl, inr, option_map, subst, sym}
+use Rattle.std.proofs.Common.{◌≡◌, ◌⊎◌, ◌∙◌, ◌++◌, List, ap, inl, inr, map, option_map, subst, sym}
 use Rattle.std.specs.List.{AllZip, flat_map}
 use Rattle.std.specs.Prelude.{All}
 use Rattle.std.proofs.lemmas.Result.{err_from_is_err_and}
@@ -15,10 +15,10 @@ use Rattle.edit_set_version.specs.Crates.{IsReadOf, bumps_view, project_view}
 use Rattle.edit_set_version.specs.Admitted.{AreVersions}
 use Rattle.edit_set_version.specs.Plan.{IsPlan}
 use Rattle.edit_set_version.specs.PlanCauses.{IsManifestError}
-use Rattle.edit_set_version.specs.PlanLines.{lines_of, shared_lines}
+use Rattle.edit_set_version.specs.PlanLines.{Reported, lines_of, shared_lines}
 use Rattle.edit_set_version.specs.PlanRefused.{IsCauseOf, IsInputClearBy}
 use Rattle.edit_set_version.specs.PlanRefused.IsCauseOf.{manifest as of_manifest, memory as of_memory, no_manifest as of_input, no_package as of_package, project as of_project}
-use Rattle.edit_set_version.specs.Planned.{HasOutputsBy, OutputsInOrder, has_lines, plan_lines_view}
+use Rattle.edit_set_version.specs.Planned.{HasOutputsBy, OutputsInOrder, has_lines, plan_changes_view, plan_lines_view}
 use Rattle.edit_set_version.specs.Projects.{HasProject}
 use Rattle.edit_set_version.specs.Selections.{selection_view}
 use Rattle.edit_set_version.specs.SetVersioned.{Bump, bumps, workspace_current, workspace_next}
@@ -83,21 +83,26 @@ returns-clause-planned c =
     where_all c.plan_with.result
     (λ (plan : SetVersionPlan). All (HasOutputsBy p.path n bs plan.outputs.items) is)
     (λ (plan : SetVersionPlan). OutputsInOrder is plan.outputs.items)
-    (λ (plan : SetVersionPlan). plan_lines_view plan ≡ shared_lines m n ++ flat_map (lines_of p) bs)
+    (λ (plan : SetVersionPlan). plan_lines_view plan
+    ≡ map (λ (l : Reported). l.0) (shared_lines p.path m n ++ flat_map (lines_of p) bs))
+    (λ (plan : SetVersionPlan). plan_changes_view plan
+    ≡ map (λ (l : Reported). l.1) (shared_lines p.path m n ++ flat_map (lines_of p) bs))
     (λ (plan : SetVersionPlan). plan.changed ≡ has_lines plan)
     (All (IsInputClearBy bs) is)
     (λ (plan : SetVersionPlan). HasProject w is (IsPlan t a is plan))
-    (λ plan set in_order lines_are changed clear.
+    (λ plan set in_order lines_are changes_are changed clear.
     let outputs = outputs_given t a is p n bs plan.outputs.items made.next made.bumps set in
     let each = clear_given t a is p bs made.bumps clear in
+    let same = lines_for p m (workspace_current a p) n (workspace_next t a p) bs (bumps t a p)
+    made.current made.next made.bumps in
     record {
       project = p;
       is = project;
       holds = record {
         outputs = outputs;
         in_order = in_order;
-        lines = lines_are ∙ lines_for p m (workspace_current a p) n (workspace_next t a p) bs (bumps t a p)
-            made.current made.next made.bumps;
+        lines = lines_are ∙ ap (map (λ (l : Reported). l.0)) same;
+        changes = changes_are ∙ ap (map (λ (l : Reported). l.1)) same;
         changed = changed;
         clear = record {
           packages = ap (missing a) (member_names_are is (members w.packages) p.members project.members)
@@ -113,7 +118,7 @@ returns-clause-planned c =
       };
     })
     c.plan_with.ensures.outputs c.plan_with.ensures.in_order c.plan_with.ensures.lines
-    c.plan_with.ensures.changed c.plan_with.ensures.clear
+    c.plan_with.ensures.changes c.plan_with.ensures.changed c.plan_with.ensures.clear
 
 pub returns-clause-error : goal.returns-clause-error
 returns-clause-error c =

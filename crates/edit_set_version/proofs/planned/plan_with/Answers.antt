@@ -1,11 +1,11 @@
-use Rattle.std.proofs.Common.{◌∙◌, List, ℕ, ap, inl, inr, option_map, subst, sym}
+use Rattle.std.proofs.Common.{◌∙◌, List, ℕ, ap, inl, inr, map, option_map, subst, sym}
 use Rattle.std.specs.Prelude.{All}
 use Rattle.std.proofs.lemmas.Result.{err_from_is_err_and}
 use Rattle.semver.specs.Identifiers.{parts_of}
 use Rattle.edit_set_version.specs.Apart.{AreApart}
 use Rattle.edit_set_version.specs.Crates.{bumps_view, project_view}
 use Rattle.edit_set_version.specs.BumpsByFolder.{HasFirstBumps}
-use Rattle.edit_set_version.specs.PlanLines.{manifests}
+use Rattle.edit_set_version.specs.PlanLines.{Reported, manifests}
 use Rattle.edit_set_version.specs.PlanCauses.{AllRiseIn, AreUnraised, HasLiteral, LackLiterals}
 use Rattle.edit_set_version.specs.PlanCauses.IsManifestError.{literal as of_literal, requirement as of_requirement}
 use Rattle.edit_set_version.specs.PlanRefused.{IsInputClearBy}
@@ -118,10 +118,22 @@ returns-clause-lines c =
     let p = project_view c.args.project.now in
     let old = seen_copied c.as_ref-old.result ∙ ap (option_map parts_of) c.as_ref-old.ensures.value in
     let next = seen_copied c.as_ref-next.result ∙ ap (option_map parts_of) c.as_ref-next.ensures.value in
-    c.in_ok-lines.ensures.ok ∙ lines_for p (shared_version_view c.as_ref-old.result)
+    c.in_ok-lines-2.ensures.texts
+    ∙ ap (map (λ (l : Reported). l.0)) (c.in_ok-lines.ensures.ok ∙ lines_for p (shared_version_view c.as_ref-old.result)
     (option_map parts_of c.args.versions.now.current) (shared_version_view c.as_ref-next.result)
     (option_map parts_of c.args.versions.now.next) (bumps_view c.deref-3.result.now)
-    (bumps_view c.args.versions.now.bumps.items) old next (ap bumps_view c.deref-3.ensures.value)
+    (bumps_view c.args.versions.now.bumps.items) old next (ap bumps_view c.deref-3.ensures.value))
+
+pub returns-clause-changes : goal.returns-clause-changes
+returns-clause-changes c =
+    let p = project_view c.args.project.now in
+    let old = seen_copied c.as_ref-old.result ∙ ap (option_map parts_of) c.as_ref-old.ensures.value in
+    let next = seen_copied c.as_ref-next.result ∙ ap (option_map parts_of) c.as_ref-next.ensures.value in
+    c.in_ok-lines-2.ensures.changes
+    ∙ ap (map (λ (l : Reported). l.1)) (c.in_ok-lines.ensures.ok ∙ lines_for p (shared_version_view c.as_ref-old.result)
+    (option_map parts_of c.args.versions.now.current) (shared_version_view c.as_ref-next.result)
+    (option_map parts_of c.args.versions.now.next) (bumps_view c.deref-3.result.now)
+    (bumps_view c.args.versions.now.bumps.items) old next (ap bumps_view c.deref-3.ensures.value))
 
 pub returns-clause-clear : goal.returns-clause-clear
 returns-clause-clear c =
