@@ -7,21 +7,13 @@ use Rattle.std.proofs.Math.ListN.{get_or-map}
 use Rattle.edit_base.specs.declared.errors.Error.TheVariants.{IndexLine}
 use Rattle.edit_version.specs.IndexEntry.{IndexEntry}
 use Rattle.edit_sources.specs.IndexLines.{HaveEntriesInOrder, lines_of}
-use Rattle.edit_sources.proofs.OutcomeLemmas.{none_said, one_reading}
-use Rattle.edit_answers.specs.Bodies.{AreNamed, EndsLine, IsDamaged, IsWholeIndex}
-use Rattle.edit_answers.specs.Bodies.IsDamaged.{bad_line, not_whole}
-use Rattle.edit_answers.specs.declared.bodies.Damage.{Damage}
+use Rattle.edit_sources.proofs.OutcomeLemmas.{one_reading}
+use Rattle.edit_answers.specs.Bodies.{AreNamed, EndsLine, IsWholeIndex}
 
 pub All-unmap : {X Y : Type 0} (P : Y → Type 0) (f : X → Y) (xs : List X) → All P (map f xs)
     → All (λ x. P (f x)) xs
 All-unmap P f xs h k d w =
     subst P (get_or-map f xs k d) (h k (f d) (omega (arith, length-map xs f)))
-
--- a damaged file is not complete
-pub damaged-not-whole : (name body : List ℕ) (damage : Damage) → IsDamaged name body damage
-    → IsWholeIndex name body → ⊥
-damaged-not-whole name body damage (bad_line n bad) w = none_said (lines_of body) w.entries n w.say bad
-damaged-not-whole name body damage (not_whole entries say none) w = none w
 
 -- a file that does not end with a line feed is not complete
 pub not-ended : (b : Bool) (name body : List ℕ) → (IsTrue b ↔ EndsLine body) → b ≡ false

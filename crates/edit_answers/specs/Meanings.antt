@@ -3,7 +3,7 @@ use Rattle.std.specs.Prelude.{◌≡◌, ◌≢◌, ◌⊎◌, ℕ, List, Option
 use Rattle.std.specs.Borrow.{Bor}
 use Rattle.std.specs.Str.{bytes_eq}
 use Rattle.edit_answers.specs.declared.answers.Answer.{Answer}
-use Rattle.edit_answers.specs.declared.meaning.Failure.TheVariants.{Curl, Status, Unanswered}
+use Rattle.edit_answers.specs.declared.meaning.Failure.TheVariants.{Curl, Status, Token, Unanswered}
 use Rattle.edit_answers.specs.declared.meaning.Meaning.{Meaning}
 use Rattle.edit_answers.specs.declared.meaning.Meaning.TheVariants.{Absent, Failed, Moved, New, NotModified}
 
@@ -25,9 +25,12 @@ pub data MeansBy (code : Bor (List ℕ)) (redirects : List ℕ) : Meaning → Ty
   other : code.now ≢ codes "200" → code.now ≢ codes "304" → (IsAbsence code.now → ⊥)
       → MeansBy code redirects (Failed (Status code))
 
--- the meaning of a transfer; the HTTP status of a failed one is ignored
+-- the meaning of a transfer; the HTTP status of a failed one is ignored, and `token` in place of the exit code
+-- says that the registry accepted no token (own)
 pub data Means : Option Answer → Meaning → Type 0 where
   unanswered : Means None (Failed Unanswered)
-  failed : (a : Answer) → a.exit.now ≢ codes "0" → Means (Some a) (Failed (Curl a.exit a.message))
+  failed : (a : Answer) → a.exit.now ≢ codes "0" → a.exit.now ≢ codes "token"
+      → Means (Some a) (Failed (Curl a.exit a.message))
+  unauthorized : (a : Answer) → a.exit.now ≡ codes "token" → Means (Some a) (Failed (Token a.message))
   answered : (a : Answer) (m : Meaning) → a.exit.now ≡ codes "0" → MeansBy a.code a.redirects.now m
       → Means (Some a) m

@@ -85,8 +85,8 @@ damage_line cache p = damage_by (cached_path cache (lookup_text p.0)) p.1
 -- the first line of the error for missing entries
 abbrev pub error_head : List ℕ
 error_head =
-    codes "index entries are neither had nor cached; leave the crates out by `--exclude`, "
-    ++ codes "or as they are by `--offline`:"
+    codes "index entries could not be fetched, and are not in the cache; "
+    ++ codes "leave the crates out by `--exclude`, or as they are by `--offline`:"
 
 -- the error about the groups that the upgrade cannot proceed without; none if there are none
 abbrev pub error_text : List GroupText → Option (List ℕ)

@@ -8,6 +8,7 @@ use Rattle.edit_answers.specs.Bodies.{IsDamaged, IsWholeIndex}
 use Rattle.edit_answers.specs.Meanings.{new_meaning}
 use Rattle.edit_answers.specs.Places.{body_path, index_path}
 use Rattle.edit_answers.specs.declared.bodies.Damage.{Damage}
+use Rattle.edit_answers.specs.declared.bodies.Damage.TheVariants.{NotWhole}
 use Rattle.edit_answers.specs.declared.meaning.Failure.{Failure}
 use Rattle.edit_answers.specs.declared.meaning.Failure.TheVariants.{NotAnIndex}
 use Rattle.edit_answers.specs.declared.meaning.Meaning.{Meaning}
@@ -53,6 +54,11 @@ pub data FromCache (name : List ℕ) (had : Outcome) (lost : Failure) : Option (
   damaged : (bytes : List ℕ) (damage : Damage) → IsDamaged name bytes damage
       → FromCache name had lost (Some bytes) (Damaged damage lost)
 
+-- why the body of a transfer is not a complete index file of the crate; a missing one counts as an empty one
+abbrev pub IsBodyDamage : List ℕ → Option (List ℕ) → Damage → Type 0
+IsBodyDamage name None damage = damage ≡ NotWhole
+IsBodyDamage name (Some body) damage = IsDamaged name body damage
+
 -- the body of the transfer is a complete index file of the crate
 abbrev pub HasBody : Places → LookupText → ℕ → Files → Type 0
 HasBody p l number files =
@@ -68,8 +74,10 @@ stored_outcome false = Moved
 pub data Settles (p : Places) (l : LookupText) (number : ℕ) (files : Files) : Meaning → Outcome → Type 0 where
   fetched : (is_direct : Bool) → HasBody p l number files
       → Settles p l number files (new_meaning is_direct) (stored_outcome is_direct)
-  unusable : (is_direct : Bool) (o : Outcome) → (HasBody p l number files → ⊥)
-      → FromCache l.name (Cached NotAnIndex) NotAnIndex (files (cached_path p.cache.now l)) o
+  unusable : (is_direct : Bool) (damage : Damage) (o : Outcome)
+      → IsBodyDamage l.name (files (body_path p.room.now number)) damage
+      → FromCache l.name (Cached (NotAnIndex damage)) (NotAnIndex damage)
+      (files (cached_path p.cache.now l)) o
       → Settles p l number files (new_meaning is_direct) o
   current : (lost : Failure) (o : Outcome)
       → FromCache l.name Current lost (files (cached_path p.cache.now l)) o

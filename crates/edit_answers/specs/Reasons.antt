@@ -1,13 +1,14 @@
 -- The reasons in messages why entries could not be fetched (own).
-use Rattle.std.specs.Prelude.{◌≡◌, ℕ, List, [], ◌++◌, ◌==◌, ◌||◌, codes, length, if◌then◌else◌}
+use Rattle.std.specs.Prelude.{◌≡◌, ℕ, List, [], ◌++◌, ◌==◌, codes, length, if◌then◌else◌}
 use Rattle.std.specs.Fmt.{decimal}
-use Rattle.std.specs.Str.{bytes_eq}
 use Rattle.edit_lookups.specs.ControlEscapes.{escape_controls}
 use Rattle.edit_lookups.specs.Lookups.{LookupText}
 use Rattle.edit_answers.specs.Locals.{IsLocalFolder}
 use Rattle.edit_answers.specs.Places.{local_path}
+use Rattle.edit_answers.specs.declared.bodies.Damage.{Damage}
+use Rattle.edit_answers.specs.declared.bodies.Damage.TheVariants as damage
 use Rattle.edit_answers.specs.declared.meaning.Failure.{Failure}
-use Rattle.edit_answers.specs.declared.meaning.Failure.TheVariants.{BadLine, Curl, NoFolder, NotAnIndex, NotFetchable, Offline, Status, Unanswered}
+use Rattle.edit_answers.specs.declared.meaning.Failure.TheVariants.{BadLine, Curl, NoFolder, NotAnIndex, NotFetchable, Offline, Status, Token, Unanswered}
 
 -- the path of an entry in a registry on this machine; empty where the address names no folder
 pub data IsFileOf (l : LookupText) : List ℕ → Type 0 where
@@ -22,15 +23,32 @@ curl_text exit message =
 
 -- the reason for an HTTP status
 abbrev pub status_text : List ℕ → List ℕ
-status_text code =
-    if bytes_eq code (codes "401") || bytes_eq code (codes "403")
-    then codes "status " ++ (code ++ codes ": it wants a token, `CARGO_REGISTRIES_<NAME>_TOKEN`")
-    else codes "status " ++ escape_controls code
+status_text code = codes "status " ++ escape_controls code
 
 -- the reason for a malformed line of an index
 abbrev pub bad_line_text : ℕ → List ℕ → List ℕ
 bad_line_text line path =
     codes "invalid index line " ++ (decimal line ++ (codes " of " ++ escape_controls path))
+
+-- the place of a line in the entry of a crate
+abbrev pub entry_line_text : ℕ → List ℕ → List ℕ
+entry_line_text line name =
+    codes "line " ++ (decimal line ++ (codes " of the entry of " ++ escape_controls name))
+
+-- the reason for a malformed line in the entry of a crate
+abbrev pub malformed_text : ℕ → List ℕ → List ℕ
+malformed_text line name = entry_line_text line name
+    ++ codes " is malformed: it has to be a JSON object with strings as `name` and `vers`"
+
+-- the reason for an entry of a crate that is not whole
+abbrev pub not_whole_text : List ℕ → List ℕ
+not_whole_text name =
+    codes "the entry of " ++ (escape_controls name ++ codes " is not whole, or is of another crate")
+
+-- the reason for a body that is no index file of the crate with this name
+abbrev pub body_text : List ℕ → Damage → List ℕ
+body_text name (damage.BadLine line) = malformed_text line name
+body_text name damage.NotWhole = not_whole_text name
 
 -- why the entry of a lookup could not be fetched
 abbrev pub IsReason : LookupText → Failure → List ℕ → Type 0
@@ -38,7 +56,8 @@ IsReason l Offline reason = reason ≡ codes "nothing is fetched offline"
 IsReason l NotFetchable reason = reason ≡ codes "only sparse registries and folders can be read"
 IsReason l Unanswered reason = reason ≡ codes "curl gave no answer"
 IsReason l (Curl exit message) reason = reason ≡ curl_text exit.now message.now
+IsReason l (Token message) reason = reason ≡ escape_controls message.now
 IsReason l (Status code) reason = reason ≡ status_text code.now
-IsReason l NotAnIndex reason = reason ≡ codes "what came is no index file of the crate"
+IsReason l (NotAnIndex damage) reason = reason ≡ body_text l.name damage
 IsReason l NoFolder reason = reason ≡ codes "there is no such folder"
 IsReason l (BadLine line) reason = (path : List ℕ) × IsFileOf l path × (reason ≡ bad_line_text line path)

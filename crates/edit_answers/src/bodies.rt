@@ -1,5 +1,5 @@
 //! Checks whether a body is an index file.
-ghost use Rattle.std.specs.Prelude.{◌≡◌, ◌↔◌, All, IsTrue, IfOk, MatchBool, MatchOption, map, string_bytes};
+ghost use Rattle.std.specs.Prelude.{◌≡◌, ◌↔◌, All, IsTrue, IfOk, MatchOption, map, string_bytes};
 ghost use Rattle.edit_answers.specs.Bodies.{AreNamed, EndsLine, IsDamaged, IsSameName, IsWholeIndex};
 ghost use Rattle.edit_version.specs.IndexEntry.{entry_of};
 
@@ -72,16 +72,5 @@ pub fn damage_of(alloc: Global, name: &str, body: &[u8]) -> Result<Option<Damage
         Err(Error::IndexLine { line }) => Ok(Some(Damage::BadLine(line))),
         // the only other error is lack of memory
         Err(_) => Err(AllocError),
-    }
-}
-
-/// Whether a body is a complete index file of a crate.
-pub fn is_whole_index(alloc: Global, name: &str, body: &[u8]) -> Result<bool, AllocError>
-    ensures { IfOk result (λ b. MatchBool b (IsWholeIndex name.now body.now)
-        (IsWholeIndex name.now body.now → ⊥)) }
-{
-    match damage_of(alloc, name, body)? {
-        Some(_) => Ok(false),
-        None => Ok(true),
     }
 }

@@ -17,10 +17,13 @@ pub enum Failure<'a> {
     Unanswered,
     /// The transfer failed, with curl's exit code and message.
     Curl(&'a str, &'a str),
+    /// The registry wants a token, and none could be sent or it refused the one that was sent; with the
+    /// message about that.
+    Token(&'a str),
     /// The response has an HTTP status that means neither an entry nor its absence.
     Status(&'a str),
-    /// The body is not a complete index file of the crate.
-    NotAnIndex,
+    /// The body is not a complete index file of the crate, for this reason.
+    NotAnIndex(Damage),
     /// The folder of a registry on this machine does not exist.
     NoFolder,
     /// A line of a file of a registry on this machine is malformed.
@@ -98,7 +101,8 @@ fn meaning_by<'a>(code: &'a str, redirects: &str) -> Meaning<'a>
     Meaning::Failed(Failure::Status(code))
 }
 
-/// The meaning of a transfer, given the outcome that curl reported, if it did.
+/// The meaning of a transfer, given the outcome that curl reported, if it did. In place of curl's exit code
+/// stands `token` where the registry wants a token and has accepted none.
 pub fn meaning_of<'a>(answer: Option<Answer<'a>>) -> Meaning<'a>
     ensures { Means answer.entry result }
 {
@@ -107,6 +111,9 @@ pub fn meaning_of<'a>(answer: Option<Answer<'a>>) -> Meaning<'a>
     };
     if answer.exit == "0" {
         return meaning_by(answer.code, answer.redirects);
+    }
+    if answer.exit == "token" {
+        return Meaning::Failed(Failure::Token(answer.message));
     }
     Meaning::Failed(Failure::Curl(answer.exit, answer.message))
 }

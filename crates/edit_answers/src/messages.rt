@@ -234,9 +234,9 @@ fn error_of(alloc: Global, groups: &[Group<'_>]) -> Result<Option<String>, Alloc
     }
     let mut text = String::from_str(
         alloc,
-        "index entries are neither had nor cached; leave the crates out by `--exclude`, ",
+        "index entries could not be fetched, and are not in the cache; ",
     )?;
-    text.push_str("or as they are by `--offline`:")?;
+    text.push_str("leave the crates out by `--exclude`, or as they are by `--offline`:")?;
     push_lines(alloc, &mut text, Consequence::Missing, groups)?;
     Ok(Some(text))
 }

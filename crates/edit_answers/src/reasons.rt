@@ -1,9 +1,10 @@
 //! The reasons in messages why entries could not be fetched.
 ghost use Rattle.std.specs.Prelude.{◌≡◌, ◌++◌, ℕ, List, IfOk, MatchOption, codes, string_bytes};
-ghost use Rattle.edit_answers.specs.Reasons.{IsFileOf, IsReason, bad_line_text, curl_text, status_text};
+ghost use Rattle.edit_answers.specs.Reasons.{IsFileOf, IsReason, bad_line_text, body_text, entry_line_text, malformed_text, not_whole_text, curl_text, status_text};
 ghost use Rattle.edit_lookups.specs.ControlEscapes.{escape_controls};
 ghost use Rattle.edit_lookups.specs.Lookups.{lookup_text};
 
+use crate::bodies::Damage;
 use crate::local::{local_folder, local_path};
 use crate::meaning::Failure;
 use edit_lookups::{Lookup, push_escaped};
@@ -46,11 +47,6 @@ fn curl_text(alloc: Global, exit: &str, message: &str) -> Result<String, AllocEr
 fn status_text(alloc: Global, code: &str) -> Result<String, AllocError>
     ensures { IfOk result (λ s. string_bytes s ≡ status_text code.now) }
 {
-    if code == "401" || code == "403" {
-        return format!(in alloc;
-            "status {code}: it wants a token, `CARGO_REGISTRIES_<NAME>_TOKEN`"
-        );
-    }
     let code = escape_message(alloc, code)?;
     format!(in alloc; "status {code}")
 }
@@ -61,6 +57,42 @@ fn bad_line_text(alloc: Global, line: usize, path: &str) -> Result<String, Alloc
 {
     let path = escape_message(alloc, path)?;
     format!(in alloc; "invalid index line {line} of {path}")
+}
+
+/// Formats the place of a line in the entry of a crate.
+fn entry_line_text(alloc: Global, line: usize, name: &str) -> Result<String, AllocError>
+    ensures { IfOk result (λ s. string_bytes s ≡ entry_line_text line name.now) }
+{
+    let name = escape_message(alloc, name)?;
+    format!(in alloc; "line {line} of the entry of {name}")
+}
+
+/// Formats that a line of the entry of a crate is malformed.
+fn malformed_text(alloc: Global, line: usize, name: &str) -> Result<String, AllocError>
+    ensures { IfOk result (λ s. string_bytes s ≡ malformed_text line name.now) }
+{
+    let what = entry_line_text(alloc, line, name)?;
+    format!(in alloc;
+        "{what} is malformed: it has to be a JSON object with strings as `name` and `vers`"
+    )
+}
+
+/// Formats that the entry of a crate is not whole.
+fn not_whole_text(alloc: Global, name: &str) -> Result<String, AllocError>
+    ensures { IfOk result (λ s. string_bytes s ≡ not_whole_text name.now) }
+{
+    let name = escape_message(alloc, name)?;
+    format!(in alloc; "the entry of {name} is not whole, or is of another crate")
+}
+
+/// Formats why a body is no index file of the crate with this name.
+fn body_text(alloc: Global, name: &str, damage: Damage) -> Result<String, AllocError>
+    ensures { IfOk result (λ s. string_bytes s ≡ body_text name.now damage) }
+{
+    match damage {
+        Damage::BadLine(line) => malformed_text(alloc, line, name),
+        Damage::NotWhole => not_whole_text(alloc, name),
+    }
 }
 
 /// Formats why an entry could not be fetched.
@@ -78,8 +110,9 @@ pub(crate) fn reason_of(
         }
         Failure::Unanswered => String::from_str(alloc, "curl gave no answer"),
         Failure::Curl(exit, message) => curl_text(alloc, exit, message),
+        Failure::Token(message) => escape_message(alloc, message),
         Failure::Status(code) => status_text(alloc, code),
-        Failure::NotAnIndex => String::from_str(alloc, "what came is no index file of the crate"),
+        Failure::NotAnIndex(damage) => body_text(alloc, lookup.name, damage),
         Failure::NoFolder => String::from_str(alloc, "there is no such folder"),
         Failure::BadLine(line) => {
             let path = file_of(alloc, lookup)?;

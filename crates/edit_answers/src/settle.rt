@@ -1,15 +1,15 @@
 //! Processes a lookup.
-ghost use Rattle.std.specs.Prelude.{◌≡◌, ℕ, List, Some, true, IfErr, IfOk, IfSome, MatchOption};
+ghost use Rattle.std.specs.Prelude.{◌≡◌, ℕ, List, Some, true, IfErr, IfOk, MatchResult};
 ghost use Rattle.edit_answers.specs.Bodies.{IsWholeIndex};
 ghost use Rattle.edit_answers.specs.Changes.{Changes, Fails};
 ghost use Rattle.edit_answers.specs.Meanings.{new_meaning};
-ghost use Rattle.edit_answers.specs.Outcomes.{FromCache, HasDamage, Puts, PutsIndexed, Settles, by_cached, by_link, stored_outcome};
+ghost use Rattle.edit_answers.specs.Outcomes.{FromCache, HasDamage, IsBodyDamage, Puts, PutsIndexed, Settles, by_cached, by_link, stored_outcome};
 ghost use Rattle.edit_answers.specs.Places.{index_path};
 ghost use Rattle.edit_lookups.specs.CachePaths.{cached_path};
 ghost use Rattle.edit_lookups.specs.Lookups.{lookup_text};
 ghost use Rattle.edit_store.specs.Store.{OnlyReads};
 
-use crate::bodies::{Damage, damage_of, is_whole_index};
+use crate::bodies::{Damage, damage_of};
 use crate::link_store::LinkStore;
 use crate::meaning::{Failure, Meaning, Outcome};
 use crate::places::{Places, body_path, index_path};
@@ -19,29 +19,29 @@ use edit_lookups::{Lookup, cached_path, validator_path};
 use edit_store::Store;
 use std::alloc::Global;
 
-/// Reads the body at a path, if it is a complete index file of a crate.
+/// Reads the body at a path: its bytes if it is a complete index file of a crate, else why it is none. A body
+/// that is not there counts as an empty one.
 fn read_body<S: Store>(
     alloc: Global,
     files: &mut S,
     name: &str,
     path: &str,
-) -> CargoResult<Option<Vec<u8>>>
+) -> CargoResult<Result<Vec<u8>, Damage>>
     ensures reads { OnlyReads (S.view files.old) (S.view files.new) }
-    ensures body { IfOk result (λ o. (S.view files.old).tells ≡ true → MatchOption o
-        ((b : List ℕ) → (S.view files.old).file_at path.now ≡ Some b → IsWholeIndex name.now b → ⊥)
-        (λ v. (S.view files.old).file_at path.now ≡ Some v.items)) }
-    ensures whole { IfOk result (λ o. IfSome o (λ v. IsWholeIndex name.now v.items)) }
+    ensures body { IfOk result (λ r. (S.view files.old).tells ≡ true → MatchResult r
+        (λ v. (S.view files.old).file_at path.now ≡ Some v.items)
+        (IsBodyDamage name.now ((S.view files.old).file_at path.now))) }
+    ensures whole { IfOk result (λ r. IfOk r (λ v. IsWholeIndex name.now v.items)) }
     ensures error { IfErr result (Fails (S.view files.old).faults (S.view files.new).faults) }
 {
     let body = match files.read(alloc, path) {
         Ok(Some(body)) => body,
-        Ok(None) => return Ok(None),
+        Ok(None) => return Ok(Err(Damage::NotWhole)),
         Err(error) => return Err(error),
     };
-    if is_whole_index(alloc, name, &body)? {
-        Ok(Some(body))
-    } else {
-        Ok(None)
+    match damage_of(alloc, name, &body)? {
+        Some(damage) => Ok(Err(damage)),
+        None => Ok(Ok(body)),
     }
 }
 
@@ -145,9 +145,9 @@ fn settle_new<'a, S: LinkStore>(
 {
     let body_path = body_path(alloc, places.room, number)?;
     let body = match read_body(alloc, files, lookup.name, body_path.as_str()) {
-        Ok(Some(body)) => body,
-        Ok(None) => {
-            let failure = Failure::NotAnIndex;
+        Ok(Ok(body)) => body,
+        Ok(Err(damage)) => {
+            let failure = Failure::NotAnIndex(damage);
             return from_cache(
                 alloc,
                 files,
