@@ -6,7 +6,7 @@ use Rattle.std.specs.Option.{option_to_list}
 use Rattle.std.proofs.lemmas.Bool.{and_from}
 use Rattle.std.proofs.lemmas.List.Folds.{list_all-append}
 use Rattle.edit_fetch.specs.CurlConfig.{CurlOption, in_a_row, is_option_name, next, options_in, valued, without_nuls}
-use Rattle.edit_fetch.specs.Transfers.{common_options, etag_options, file_options, named_options, protocol_options, requests_text, sent_etag, sent_token, time_options, token_options, transfer_options}
+use Rattle.edit_fetch.specs.Transfers.{common_options, etag_options, file_options, head_options, named_options, protocol_options, redirect_options, requests_text, sent_etag, sent_token, time_options, token_options, transfer_options}
 use Rattle.edit_fetch.specs.declared.settings.NetSettings.{NetSettings}
 use Rattle.edit_fetch.specs.declared.transfers.Request.{Request}
 use Rattle.edit_fetch.proofs.ReadLemmas.{options_read}
@@ -25,6 +25,14 @@ both_named {xs} {ys} first second =
 files_named : (room : List ℕ) (r : Request) → AreNamed (file_options room r)
 unfolding file_options
 files_named room r = record { named = refl }
+
+head_named : (room : List ℕ) (r : Request) → AreNamed (head_options room r)
+unfolding head_options
+head_named room r = record { named = refl }
+
+redirects_named : AreNamed redirect_options
+unfolding redirect_options
+redirects_named = record { named = refl }
 
 etag_named : (etag : Option (List ℕ)) → AreNamed (etag_options etag)
 unfolding etag_options
@@ -63,11 +71,13 @@ transfer_named : (settings : NetSettings) (room : List ℕ) (r : Request)
 unfolding transfer_options
 transfer_named settings room r =
     both_named (files_named room r)
+    (both_named (head_named room r)
     (both_named (etag_named (sent_etag r))
+    (both_named redirects_named
     (both_named (token_named (sent_token r))
     (both_named (protocols_named r.url.items)
     (both_named common_named
-    (both_named (times_named settings) (settings_named settings))))))
+    (both_named (times_named settings) (settings_named settings))))))))
 
 later_named : (settings : NetSettings) (room : List ℕ) (rs : List Request)
     → AreNamed (flat_map (λ options. (next ∷ []) ++ options) (map (transfer_options settings room) rs))

@@ -1,12 +1,11 @@
 -- The requests for lookups, with one lookup more.
 use Rattle.std.proofs.Common.{◌≡◌, ◌<◌, ◌+◌, ℕ, List, [], ◌∷◌, ◌++◌, true, false, length, map, option_map, take, get_or, ap, sym, ◌∙◌, subst, string_bytes, arith}
-use Rattle.std.specs.Prelude.{codes}
-use Rattle.std.proofs.lemmas.List.{length-append, length-map, length-take-le, map_more}
+use Rattle.std.proofs.lemmas.List.{length-map, length-take-le, map_more}
 use Rattle.edit_lookups.specs.CachePaths.{cached_path, validator_path}
 use Rattle.edit_lookups.specs.Lookups.{LookupText, lookup_text}
 use Rattle.edit_lookups.specs.declared.lookups.Lookup.{Lookup}
 use Rattle.edit_store.specs.Store.{Files, SameFiles}
-use Rattle.edit_fetch.specs.Plans.{AreRequests, IsCachedEtag, IsRequest, is_sparse_registry, working_file}
+use Rattle.edit_fetch.specs.Plans.{AreRequests, IsCachedEtag, IsRequest, is_requested}
 use Rattle.edit_fetch.specs.Plans.AreRequests.{fetched, none, passed}
 use Rattle.edit_fetch.specs.declared.plan.FetchPlan.{FetchPlan}
 use Rattle.edit_fetch.specs.declared.transfers.Request.{Request}
@@ -15,11 +14,11 @@ use Rattle.edit_fetch.specs.declared.transfers.Request.{Request}
 pub passed_more : (files : Files) (plan : FetchPlan) (lookups : List Lookup) (i : ℕ) (d : Lookup)
     (requests : List Request) (address : List ℕ) → i < length lookups
     → address ≡ (get_or lookups i d).address.now
-    → AreRequests files plan (map lookup_text (take i lookups)) requests → is_sparse_registry address ≡ false
+    → AreRequests files plan (map lookup_text (take i lookups)) requests → is_requested plan address ≡ false
     → AreRequests files plan (map lookup_text (take (i + 1) lookups)) requests
 passed_more files plan lookups i d requests address within is so_far out =
     let l = get_or lookups i d in
-    let no_request : is_sparse_registry l.address.now ≡ false = sym (ap is_sparse_registry is) ∙ out in
+    let no_request : is_requested plan l.address.now ≡ false = sym (ap (is_requested plan) is) ∙ out in
     subst (λ ls. AreRequests files plan ls requests) (sym (map_more lookup_text lookups i d within))
     (passed _ _ (lookup_text l) so_far no_request)
 
@@ -27,14 +26,14 @@ passed_more files plan lookups i d requests address within is so_far out =
 pub fetched_more : (files : Files) (plan : FetchPlan) (lookups : List Lookup) (i : ℕ) (d : Lookup)
     (old new : List Request) (r : Request) (address : List ℕ) → i < length lookups
     → address ≡ (get_or lookups i d).address.now
-    → AreRequests files plan (map lookup_text (take i lookups)) old → is_sparse_registry address ≡ true
+    → AreRequests files plan (map lookup_text (take i lookups)) old → is_requested plan address ≡ true
     → IsRequest files plan (i + 1) (lookup_text (get_or lookups i d)) r → new ≡ old ++ r ∷ []
     → AreRequests files plan (map lookup_text (take (i + 1) lookups)) new
 fetched_more files plan lookups i d old new r address within is so_far out asks items =
     let l = get_or lookups i d in
     let count : length (map lookup_text (take i lookups)) ≡ i =
     length-map (take i lookups) lookup_text ∙ length-take-le i lookups (omega arith) in
-    let one_request : is_sparse_registry l.address.now ≡ true = sym (ap is_sparse_registry is) ∙ out in
+    let one_request : is_requested plan l.address.now ≡ true = sym (ap (is_requested plan) is) ∙ out in
     let more = fetched _ _ (lookup_text l) r so_far one_request
     (subst (λ n. IsRequest files plan (n + 1) (lookup_text l) r) (sym count) asks) in
     subst (λ rs. AreRequests files plan (map lookup_text (take (i + 1) lookups)) rs) (sym items)
@@ -59,13 +58,3 @@ request_same old new plan number l r same asks =
           (subst (λ body. IsCachedEtag body (new (validator_path entry)) etag) (same entry) asks.etag);
       token = asks.token;
     }
-
--- the two files have different names
-pub names_differ : (room : List ℕ) → working_file room (codes "lookups") ≡ working_file room (codes "curl")
-    → ⊥
-names_differ room same = omega (
-  arith,
-  length-append room (47 ∷ codes "lookups"),
-  length-append room (47 ∷ codes "curl"),
-  ap length same,
-)

@@ -1,6 +1,8 @@
 pub mod Addressless
+pub mod Credentials
 pub mod CurlConfig
 pub mod Plans
+pub mod Retries
 pub mod Settings
 pub mod Tokens
 pub mod TomlText

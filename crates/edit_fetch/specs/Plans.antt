@@ -1,6 +1,7 @@
 -- The plan of the transfers for lookups, and the files that hold it.
-use Rattle.std.specs.Prelude.{◌≡◌, ◌≢◌, ℕ, ◌+◌, List, [], ◌∷◌, ◌++◌, Option, Some, None, Bool, true, false, ◌||◌, nat_eq, codes, drop, length, MatchBool, MatchOption, option_map, string_bytes, if◌then◌else◌}
-use Rattle.std.specs.List.{ends_with, starts_with}
+use Rattle.std.specs.Prelude.{◌≡◌, ℕ, ◌+◌, List, [], ◌∷◌, ◌++◌, Option, Some, None, Bool, true, false, ◌&&◌, ◌||◌, not, nat_eq, codes, drop, length, MatchBool, MatchOption, option_map, string_bytes, if◌then◌else◌}
+use Rattle.std.specs.List.{ends_with, list_any, starts_with}
+use Rattle.std.specs.Str.{bytes_eq}
 use Rattle.edit_lookups.specs.CachePaths.{cached_path, validator_path}
 use Rattle.edit_base.specs.declared.errors.DeviceCall.{DeviceCall}
 use Rattle.edit_base.specs.declared.errors.Error.{Error}
@@ -13,11 +14,19 @@ use Rattle.edit_fetch.specs.declared.plan.FetchPlan.{FetchPlan}
 use Rattle.edit_fetch.specs.declared.transfers.Request.{Request}
 use Rattle.edit_store.specs.Store.{Files, IsRaisedCount}
 
--- whether the entries of a registry are fetched: it uses the sparse protocol
+-- whether a registry uses the sparse protocol, so that its entries can be fetched
 abbrev pub is_sparse_registry : List ℕ → Bool
 is_sparse_registry address =
     starts_with nat_eq address (codes "sparse+http://")
     || starts_with nat_eq address (codes "sparse+https://")
+
+-- whether nothing is requested of a registry: it wants a token, and none can be sent
+abbrev pub is_withheld : FetchPlan → List ℕ → Bool
+is_withheld plan address = list_any (λ other. bytes_eq other.now address) plan.withheld.now
+
+-- whether the entries of a registry are requested
+abbrev pub is_requested : FetchPlan → List ℕ → Bool
+is_requested plan address = is_sparse_registry address && not (is_withheld plan address)
 
 -- a text with a slash appended, unless it ends with one
 abbrev pub with_slash : List ℕ → List ℕ
@@ -46,10 +55,10 @@ pub record IsRequest (files : Files) (plan : FetchPlan) (number : ℕ) (lookup :
 pub data AreRequests (files : Files) (plan : FetchPlan) : List LookupText → List Request → Type 0 where
   none : AreRequests files plan [] []
   passed : (lookups : List LookupText) (requests : List Request) (lookup : LookupText)
-      → AreRequests files plan lookups requests → is_sparse_registry lookup.address ≡ false
+      → AreRequests files plan lookups requests → is_requested plan lookup.address ≡ false
       → AreRequests files plan (lookups ++ lookup ∷ []) requests
   fetched : (lookups : List LookupText) (requests : List Request) (lookup : LookupText) (request : Request)
-      → AreRequests files plan lookups requests → is_sparse_registry lookup.address ≡ true
+      → AreRequests files plan lookups requests → is_requested plan lookup.address ≡ true
       → IsRequest files plan (length lookups + 1) lookup request
       → AreRequests files plan (lookups ++ lookup ∷ []) (requests ++ request ∷ [])
 
@@ -62,12 +71,6 @@ AreEffectiveRequests files plan lookups requests =
 abbrev pub working_file : List ℕ → List ℕ → List ℕ
 working_file room name = room ++ 47 ∷ name
 
--- every file is unchanged except `lookups` and `curl` in the working folder
-abbrev pub HasSameFilesElsewhere : List ℕ → Files → Files → Type 0
-HasSameFilesElsewhere room old new =
-    (path : List ℕ) → path ≢ working_file room (codes "lookups") → path ≢ working_file room (codes "curl")
-    → new path ≡ old path
-
 -- the device failed in some call, which was counted
 pub record HasFailedIn (before now : ℕ) (e : Error) : Type 0 where
   pub call : DeviceCall
@@ -78,14 +81,19 @@ pub record HasFailedIn (before now : ℕ) (e : Error) : Type 0 where
 abbrev pub IsUnreadable : List ℕ → Type 0
 IsUnreadable text = (lookups : List LookupText) → HasLookupLines text lookups → ⊥
 
--- the files that are written for a text of lookups: the text, and the configuration for the requests of its
--- lookups; `count` is the number of the requests
+-- the file that is written for a text of lookups: the text; `count` is the number of the requests for them
 pub record IsPlanned (old new : Files) (plan : FetchPlan) (text : List ℕ) (count : ℕ) : Type 0 where
   pub lookups : List LookupText
   pub requests : List Request
   pub said : HasLookupLines text lookups
   pub made : AreEffectiveRequests old plan lookups requests
   pub copied : new (working_file plan.room.now (codes "lookups")) ≡ Some text
-  pub written : new (working_file plan.room.now (codes "curl"))
-      ≡ Some (requests_text plan.settings.now plan.room.now requests)
   pub counted : count ≡ length requests
+
+-- the configuration of curl for a text of lookups: that of the requests for them
+pub record IsConfigOf (files : Files) (plan : FetchPlan) (text config : List ℕ) : Type 0 where
+  pub lookups : List LookupText
+  pub requests : List Request
+  pub said : HasLookupLines text lookups
+  pub made : AreEffectiveRequests files plan lookups requests
+  pub is : config ≡ requests_text plan.settings.now plan.room.now requests

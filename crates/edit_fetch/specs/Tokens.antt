@@ -25,9 +25,20 @@ pub record IsTokenOf (tokens : List Token) (address token : List ℕ) : Type 0 w
 abbrev pub variable_byte : ℕ → ℕ
 variable_byte b = if b == 45 then 95 else to_ascii_uppercase b
 
--- the environment variable with the token of a registry
+-- the environment variable for a setting of a registry (Cargo reference, "Configuration", Environment
+-- variables)
+abbrev pub registry_variable : List ℕ → List ℕ → List ℕ
+registry_variable name ending = codes "CARGO_REGISTRIES_" ++ (map variable_byte name ++ ending)
+
+-- the environment variable with the token of a registry (Cargo reference, "Configuration",
+-- registries.<name>.token)
 abbrev pub token_variable : List ℕ → List ℕ
-token_variable name = codes "CARGO_REGISTRIES_" ++ (map variable_byte name ++ codes "_TOKEN")
+token_variable name = registry_variable name (codes "_TOKEN")
+
+-- the environment variable with the credential provider of a registry (Cargo reference, "Configuration",
+-- registries.<name>.credential-provider)
+abbrev pub provider_variable : List ℕ → List ℕ
+provider_variable name = registry_variable name (codes "_CREDENTIAL_PROVIDER")
 
 -- the address is the text, parsed as a URL and serialized again (URL Standard, "URL serializing")
 pub record IsAddressOf (text address : List ℕ) : Type 0 where

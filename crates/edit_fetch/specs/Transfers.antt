@@ -52,10 +52,15 @@ unfoldable pub etag_options : Option (List ℕ) → List CurlOption
 etag_options etag =
     option_to_list (option_map (λ e. valued (codes "header") (codes "If-None-Match: " ++ e)) etag)
 
--- the header `Authorization` with the token or, without a token, the options that follow redirects
+-- the options that follow redirects: without `location-trusted` curl sends the header `Authorization` on to
+-- the same scheme, host and port alone (curl's manual, `--location`)
+unfoldable pub redirect_options : List CurlOption
+redirect_options = bare (codes "location") ∷ valued (codes "max-redirs") (codes "5") ∷ []
+
+-- the header `Authorization` with the token, if there is one
 unfoldable pub token_options : Option (List ℕ) → List CurlOption
-token_options (Some token) = valued (codes "header") (codes "Authorization: " ++ token) ∷ []
-token_options None = bare (codes "location") ∷ valued (codes "max-redirs") (codes "5") ∷ []
+token_options token =
+    option_to_list (option_map (λ t. valued (codes "header") (codes "Authorization: " ++ t)) token)
 
 -- the protocols that a transfer may use: from `https` no redirect leads to `http`
 abbrev pub protocols : List ℕ → List ℕ
@@ -77,8 +82,14 @@ file_options room request =
     ∷ valued (codes "output") (transfer_file room request.number [])
     ∷ valued (codes "etag-save") (transfer_file room request.number (codes ".etag"))
     ∷ valued (codes "write-out")
-    (decimal request.number ++ codes "\t%{response_code}\t%{exitcode}\t%{num_redirects}\t%{errormsg}\n")
+    (decimal request.number
+    ++ codes "\t%{response_code}\t%{exitcode}\t%{num_redirects}\t%{time_total}\t%{errormsg}\n")
     ∷ []
+
+-- the file for the headers of the answers, which may say when to try again
+unfoldable pub head_options : List ℕ → Request → List CurlOption
+head_options room request =
+    valued (codes "dump-header") (transfer_file room request.number (codes ".head")) ∷ []
 
 -- options of every transfer: no progress, no globbing in URLs, compression if the server supports it
 unfoldable pub common_options : List CurlOption
@@ -86,13 +97,14 @@ common_options =
     bare (codes "silent") ∷ bare (codes "globoff") ∷ bare (codes "compressed")
     ∷ valued (codes "user-agent") (codes "cargo-edit/0.1.0") ∷ []
 
--- the timeouts of connecting and of a transfer below 10 bytes per second, and the number of retries
+-- the timeouts of connecting and of a transfer below 10 bytes per second, and the greatest size of a body in
+-- bytes
 unfoldable pub time_options : NetSettings → List CurlOption
 time_options settings =
     valued (codes "connect-timeout") (decimal settings.timeout)
     ∷ valued (codes "speed-limit") (codes "10")
     ∷ valued (codes "speed-time") (decimal settings.timeout)
-    ∷ valued (codes "retry") (decimal settings.retry) ∷ []
+    ∷ valued (codes "max-filesize") (codes "104857600") ∷ []
 
 -- the proxy and the file of certificates, if the settings have them
 unfoldable pub named_options : NetSettings → List CurlOption
@@ -104,10 +116,12 @@ named_options settings =
 unfoldable pub transfer_options : NetSettings → List ℕ → Request → List CurlOption
 transfer_options settings room request =
     file_options room request
+    ++ (head_options room request
     ++ (etag_options (sent_etag request)
+    ++ (redirect_options
     ++ (token_options (sent_token request)
     ++ (protocol_options request.url.items
-    ++ (common_options ++ (time_options settings ++ named_options settings)))))
+    ++ (common_options ++ (time_options settings ++ named_options settings)))))))
 
 -- the configuration of curl for these requests
 abbrev pub requests_text : NetSettings → List ℕ → List Request → List ℕ

@@ -1,8 +1,9 @@
-//! Plans the transfers for lookups and writes the files that curl reads.
+//! Plans the transfers for lookups, and writes the configuration that curl reads.
 ghost use Rattle.std.specs.Prelude.{◌≡◌, ◌≤◌, ◌⊎◌, Some, true, IfErr, IfOk, MatchOption, OnOk, codes};
 ghost use Rattle.edit_base.specs.Errors.{IsMemory};
-ghost use Rattle.edit_fetch.specs.Plans.{HasFailedIn, IsPlanned, IsUnreadable, HasSameFilesElsewhere, working_file};
-ghost use Rattle.edit_store.specs.Store.{SameBut, SameFiles};
+ghost use Rattle.edit_fetch.specs.Plans.{HasFailedIn, IsConfigOf, IsPlanned, IsUnreadable, working_file};
+ghost use Rattle.edit_sources.specs.ConfigurationFiles.{HasFailed};
+ghost use Rattle.edit_store.specs.Store.{OnlyReads, SameBut, SameFiles};
 
 use crate::requests::effective_requests;
 use crate::settings::NetSettings;
@@ -22,6 +23,8 @@ pub struct FetchPlan<'a> {
     pub room: &'a str,
     pub settings: &'a NetSettings,
     pub tokens: &'a [Token<'a>],
+    /// The addresses of registries of which nothing is requested: each wants a token, and none can be sent.
+    pub withheld: &'a [&'a str],
 }
 
 /// Writes a file of the working folder.
@@ -48,37 +51,8 @@ fn write_working_file<S: Store>(
     }
 }
 
-/// Writes the files `lookups` and `curl` of the working folder.
-fn write_plan<S: Store>(
-    alloc: Global,
-    store: &mut S,
-    room: &str,
-    text: &[u8],
-    config: &[u8],
-) -> CargoResult<()>
-    ensures lookups { OnOk result ((S.view store.old).tells ≡ true
-        → (S.view store.new).file_at (working_file room.now (codes "lookups")) ≡ Some text.now) }
-    ensures config { OnOk result ((S.view store.old).tells ≡ true
-        → (S.view store.new).file_at (working_file room.now (codes "curl")) ≡ Some config.now) }
-    ensures others { HasSameFilesElsewhere room.now (S.view store.old).file_at (S.view store.new).file_at }
-    ensures tells { (S.view store.new).tells ≡ (S.view store.old).tells }
-    ensures later { (S.view store.old).faults ≤ (S.view store.new).faults }
-    ensures error { IfErr result (λ e. IsMemory e
-        ⊎ HasFailedIn (S.view store.old).faults (S.view store.new).faults e) }
-{
-    match write_working_file(alloc, store, room, "lookups", text) {
-        Ok(()) => {}
-        Err(error) => return Err(error),
-    }
-    match write_working_file(alloc, store, room, "curl", config) {
-        Ok(()) => Ok(()),
-        Err(error) => Err(error),
-    }
-}
-
-/// Plans the transfers for the lookups in a text and writes two files of the working folder: `lookups`, the
-/// text, and `curl`, the configuration of curl. Returns the number of transfers; `None` where the text is
-/// malformed, and then no file is written.
+/// Plans the transfers for the lookups in a text, which it writes to the file `lookups` of the working
+/// folder. Returns the number of transfers; `None` where the text is malformed, and then no file is written.
 ///
 /// An entry is fetched if its registry uses the sparse protocol, unless the settings are offline.
 pub fn fetch_plan<S: Store>(
@@ -91,7 +65,7 @@ pub fn fetch_plan<S: Store>(
         × SameFiles (S.view store.old).file_at (S.view store.new).file_at)
         (λ n. (S.view store.old).tells ≡ true → IsPlanned (S.view store.old).file_at
         (S.view store.new).file_at plan.now text.now n)) }
-    ensures others { HasSameFilesElsewhere plan.now.room.now
+    ensures others { SameBut (working_file plan.now.room.now (codes "lookups"))
         (S.view store.old).file_at (S.view store.new).file_at }
     ensures tells { (S.view store.new).tells ≡ (S.view store.old).tells }
     ensures error { IfErr result (λ e. IsMemory e
@@ -104,9 +78,34 @@ pub fn fetch_plan<S: Store>(
         Ok(requests) => requests,
         Err(error) => return Err(error),
     };
-    let config = requests_text(alloc, plan.settings, plan.room, &requests)?;
-    match write_plan(alloc, store, plan.room, text.as_bytes(), &config) {
+    match write_working_file(alloc, store, plan.room, "lookups", text.as_bytes()) {
         Ok(()) => Ok(Some(requests.len())),
         Err(error) => Err(error),
     }
+}
+
+/// The configuration of curl for the transfers of the lookups in a text, which may hold tokens; `None` where
+/// the text is malformed.
+pub fn fetch_config<S: Store>(
+    alloc: Global,
+    store: &mut S,
+    plan: &FetchPlan<'_>,
+    text: &str,
+) -> CargoResult<Option<Vec<u8>>>
+    ensures store { OnlyReads (S.view store.old) (S.view store.new) }
+    ensures config { IfOk result (λ o. MatchOption o (IsUnreadable text.now)
+        (λ v. (S.view store.old).tells ≡ true
+        → IsConfigOf (S.view store.old).file_at plan.now text.now v.items)) }
+    ensures error { IfErr result (λ e. IsMemory e
+        ⊎ HasFailed (S.view store.old).faults (S.view store.new).faults e) }
+{
+    let Some(lookups) = read_lookups(alloc, text)? else {
+        return Ok(None);
+    };
+    let requests = match effective_requests(alloc, store, plan, &lookups) {
+        Ok(requests) => requests,
+        Err(error) => return Err(error),
+    };
+    let config = requests_text(alloc, plan.settings, plan.room, &requests)?;
+    Ok(Some(config))
 }

@@ -1,7 +1,7 @@
 //! The requests for lookups.
 ghost use Rattle.std.specs.Prelude.{◌≡◌, ◌++◌, ◌⊎◌, true, IfErr, IfOk, map, option_map, string_bytes};
 ghost use Rattle.edit_base.specs.Errors.{IsMemory};
-ghost use Rattle.edit_fetch.specs.Plans.{AreEffectiveRequests, AreRequests, IsCachedEtag, IsRequest, fetched_url, is_sparse_registry, with_slash};
+ghost use Rattle.edit_fetch.specs.Plans.{AreEffectiveRequests, AreRequests, IsCachedEtag, IsRequest, fetched_url, is_requested, is_sparse_registry, is_withheld, with_slash};
 ghost use Rattle.edit_lookups.specs.CachePaths.{cached_path, validator_path};
 ghost use Rattle.edit_lookups.specs.Lookups.{lookup_text};
 ghost use Rattle.edit_sources.specs.ConfigurationFiles.{HasFailed};
@@ -15,11 +15,25 @@ use edit_lookups::{Lookup, cached_path, usable_etag, validator_path};
 use edit_store::Store;
 use std::alloc::{AllocError, Global};
 
-/// Whether a registry uses the sparse protocol, so that its entries are fetched.
+/// Whether a registry uses the sparse protocol, so that its entries can be fetched.
 fn is_sparse_registry(address: &[u8]) -> bool
     ensures { result ≡ is_sparse_registry address.now }
 {
     address.starts_with(b"sparse+http://") || address.starts_with(b"sparse+https://")
+}
+
+/// Whether nothing is requested of a registry, since it wants a token and none can be sent.
+fn is_withheld(plan: &FetchPlan<'_>, address: &str) -> bool
+    ensures { result ≡ is_withheld plan.now address.now }
+{
+    plan.withheld.iter().any(|other| *other == address)
+}
+
+/// Whether the entries of a registry are requested.
+fn is_requested(plan: &FetchPlan<'_>, address: &str) -> bool
+    ensures { result ≡ is_requested plan.now address.now }
+{
+    is_sparse_registry(address.as_bytes()) && !is_withheld(plan, address)
 }
 
 /// Appends a slash, unless the text ends with one.
@@ -106,7 +120,8 @@ fn request<'a, S: Store>(
     })
 }
 
-/// The requests for lookups, in their order; none for a registry without the sparse protocol.
+/// The requests for lookups, in their order; none for a registry without the sparse protocol or for one of
+/// which nothing is requested.
 pub(crate) fn requests<'a, S: Store>(
     alloc: Global,
     store: &mut S,
@@ -121,7 +136,7 @@ pub(crate) fn requests<'a, S: Store>(
 {
     let mut requests = Vec::new(alloc);
     for (i, lookup) in lookups.iter().enumerate() {
-        if !is_sparse_registry(lookup.address.as_bytes()) {
+        if !is_requested(plan, lookup.address) {
             continue;
         }
         match request(alloc, store, plan, i + 1, lookup) {

@@ -1,7 +1,7 @@
 //! The authentication tokens of registries.
 ghost use Rattle.std.specs.Prelude.{◌≡◌, ◌<◌, ℕ, List, IfOk, IfSome, MatchOption, option_map, string_bytes};
 ghost use Rattle.std.specs.Str.{IsAscii};
-ghost use Rattle.edit_fetch.specs.Tokens.{IsAddressOf, IsTokenOf, token_of, token_variable, variable_byte};
+ghost use Rattle.edit_fetch.specs.Tokens.{IsAddressOf, IsTokenOf, provider_variable, registry_variable, token_of, token_variable, variable_byte};
 
 use std::alloc::{AllocError, Global};
 use url::{ParseError, Url};
@@ -45,11 +45,11 @@ fn variable_byte(byte: u8) -> u8
     }
 }
 
-/// The name of the environment variable with the token of a registry; `None` where the registry's name is
-/// not ASCII.
-pub fn token_variable(alloc: Global, name: &str) -> Result<Option<String>, AllocError>
+/// The name of the environment variable for a setting of a registry; `None` where the registry's name is not
+/// ASCII.
+fn registry_variable(alloc: Global, name: &str, ending: &str) -> Result<Option<String>, AllocError>
     ensures { IfOk result (λ o. MatchOption o (IsAscii name.now → ⊥)
-        (λ s. string_bytes s ≡ token_variable name.now)) }
+        (λ s. string_bytes s ≡ registry_variable name.now ending.now)) }
 {
     let mut variable = String::from_str(alloc, "CARGO_REGISTRIES_")?;
     for byte in name.as_bytes() {
@@ -58,8 +58,26 @@ pub fn token_variable(alloc: Global, name: &str) -> Result<Option<String>, Alloc
         }
         variable.push(char::from(variable_byte(*byte)))?;
     }
-    variable.push_str("_TOKEN")?;
+    variable.push_str(ending)?;
     Ok(Some(variable))
+}
+
+/// The name of the environment variable with the token of a registry; `None` where the registry's name is
+/// not ASCII.
+pub fn token_variable(alloc: Global, name: &str) -> Result<Option<String>, AllocError>
+    ensures { IfOk result (λ o. MatchOption o (IsAscii name.now → ⊥)
+        (λ s. string_bytes s ≡ token_variable name.now)) }
+{
+    registry_variable(alloc, name, "_TOKEN")
+}
+
+/// The name of the environment variable with the credential provider of a registry; `None` where the
+/// registry's name is not ASCII.
+pub fn provider_variable(alloc: Global, name: &str) -> Result<Option<String>, AllocError>
+    ensures { IfOk result (λ o. MatchOption o (IsAscii name.now → ⊥)
+        (λ s. string_bytes s ≡ provider_variable name.now)) }
+{
+    registry_variable(alloc, name, "_CREDENTIAL_PROVIDER")
 }
 
 /// Normalises the address of an index, as in lookups; `None` where the text is no URL.

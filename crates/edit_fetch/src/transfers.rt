@@ -1,10 +1,11 @@
 //! The transfers of index entries, as a configuration file of curl.
-ghost use Rattle.std.specs.Prelude.{◌≡◌, ◌==◌, ◌++◌, true, IfOk, IsSome, OnOk, decimal, map, option_map, string_bytes};
-ghost use Rattle.std.specs.List.{flat_map, list_any};
+ghost use Rattle.std.specs.Prelude.{◌≡◌, ◌++◌, true, IfOk, IsSome, OnOk, decimal, map, option_map, string_bytes};
+ghost use Rattle.std.specs.List.{flat_map};
 ghost use Rattle.edit_fetch.specs.CurlConfig.{in_a_row, option_line, options_in, without_nuls};
-ghost use Rattle.edit_fetch.specs.Transfers.{begins_at_loopback, common_options, etag_options, file_options, has_either, header_text, is_header_text, is_https, is_loopback, is_secure, named_options, transfer_file, protocol_options, protocols, requests_text, sent_etag, sent_token, time_options, token_options, transfer_options};
+ghost use Rattle.edit_fetch.specs.Transfers.{common_options, etag_options, file_options, head_options, header_text, is_header_text, is_secure, named_options, transfer_file, protocol_options, protocols, redirect_options, requests_text, sent_etag, sent_token, time_options, token_options, transfer_options};
 
 use crate::curl_config::{push_bare, push_separator, push_valued};
+use crate::secure_urls::{is_https, is_secure};
 use crate::settings::NetSettings;
 use std::alloc::{AllocError, Global};
 
@@ -19,44 +20,6 @@ pub struct Request<'a> {
     pub etag: Option<String>,
     /// The token of the registry, if there is one.
     pub token: Option<&'a str>,
-}
-
-/// Whether a URL has the scheme `https`.
-fn is_https(url: &[u8]) -> bool
-    ensures { result ≡ is_https url.now }
-{
-    url.starts_with(b"https://")
-}
-
-/// Whether a URL begins with one of two texts.
-#[tactic(auto, unfolding(crate::specs::Transfers::has_either))]
-fn has_either(url: &[u8], first: &[u8], second: &[u8]) -> bool
-    ensures { result ≡ has_either url.now first.now second.now }
-{
-    url.starts_with(first) || url.starts_with(second)
-}
-
-/// Whether a URL names the loopback interface directly after its scheme.
-fn begins_at_loopback(url: &[u8]) -> bool
-    ensures { result ≡ begins_at_loopback url.now }
-{
-    has_either(url, b"http://localhost/", b"http://localhost:")
-        || has_either(url, b"http://127.0.0.1/", b"http://127.0.0.1:")
-        || has_either(url, b"http://[::1]/", b"http://[::1]:")
-}
-
-/// Whether a URL contains `@`.
-fn has_at_sign(url: &[u8]) -> bool
-    ensures { result ≡ list_any (λ b. b == 64) url.now }
-{
-    url.iter().any(|b| *b == b'@')
-}
-
-/// Whether a URL leads to the loopback interface; one with `@` never counts.
-fn is_loopback(url: &[u8]) -> bool
-    ensures { result ≡ is_loopback url.now }
-{
-    !has_at_sign(url) && begins_at_loopback(url)
 }
 
 /// Whether a text is allowed in a header: it contains no control character.
@@ -83,7 +46,7 @@ fn sent_token<'a>(request: &Request<'a>) -> Option<&'a str>
     ensures token { option_map (λ t. t.now) result ≡ sent_token request.now }
     ensures secure { IsSome result → is_secure request.now.url.items ≡ true }
 {
-    if is_https(&request.url) || is_loopback(&request.url) {
+    if is_secure(&request.url) {
         header_text(request.token)
     } else {
         None
@@ -104,15 +67,25 @@ fn push_etag(alloc: Global, text: &mut Vec<u8>, request: &Request<'_>) -> Result
     Ok(())
 }
 
-/// Appends the header `Authorization` with the token or, without a token, the options that follow redirects.
+/// Appends the options that follow redirects.
+#[tactic(auto, unfolding(crate::specs::Transfers::redirect_options))]
+fn push_redirects(text: &mut Vec<u8>) -> Result<(), AllocError>
+    ensures { OnOk result (text.new.items
+        ≡ text.old.items ++ flat_map option_line redirect_options) }
+{
+    push_bare(text, "location")?;
+    push_valued(text, "max-redirs", b"5")?;
+    Ok(())
+}
+
+/// Appends the header `Authorization` with the token, if there is one, which curl sends to no other scheme,
+/// host or port than those of the URL.
 #[tactic(auto, unfolding(crate::specs::Transfers::token_options))]
 fn push_token(alloc: Global, text: &mut Vec<u8>, request: &Request<'_>) -> Result<(), AllocError>
     ensures { OnOk result (text.new.items
         ≡ text.old.items ++ flat_map option_line (token_options (sent_token request.now))) }
 {
     let Some(token) = sent_token(request) else {
-        push_bare(text, "location")?;
-        push_valued(text, "max-redirs", b"5")?;
         return Ok(());
     };
     let header = format!(in alloc; "Authorization: {token}")?;
@@ -170,12 +143,28 @@ fn push_files(
     let body = transfer_file(alloc, room, number, "")?;
     let etag = transfer_file(alloc, room, number, ".etag")?;
     let outcome = format!(in alloc;
-        "{number}\t%{{response_code}}\t%{{exitcode}}\t%{{num_redirects}}\t%{{errormsg}}\n"
+        "{number}\t%{{response_code}}\t%{{exitcode}}\t%{{num_redirects}}\t%{{time_total}}\t%{{errormsg}}\n"
     )?;
     push_valued(text, "url", &request.url)?;
     push_valued(text, "output", body.as_bytes())?;
     push_valued(text, "etag-save", etag.as_bytes())?;
     push_valued(text, "write-out", outcome.as_bytes())?;
+    Ok(())
+}
+
+/// Appends the option for the file with the headers of the answers.
+#[tactic(auto, unfolding(crate::specs::Transfers::head_options))]
+fn push_head(
+    alloc: Global,
+    text: &mut Vec<u8>,
+    room: &str,
+    request: &Request<'_>,
+) -> Result<(), AllocError>
+    ensures { OnOk result (text.new.items
+        ≡ text.old.items ++ flat_map option_line (head_options room.now request.now)) }
+{
+    let head = transfer_file(alloc, room, request.number, ".head")?;
+    push_valued(text, "dump-header", head.as_bytes())?;
     Ok(())
 }
 
@@ -191,18 +180,17 @@ fn push_common(text: &mut Vec<u8>) -> Result<(), AllocError>
     Ok(())
 }
 
-/// Appends the timeouts and the number of retries.
+/// Appends the timeouts and the greatest size of a body.
 #[tactic(auto, unfolding(crate::specs::Transfers::time_options))]
 fn push_times(alloc: Global, text: &mut Vec<u8>, settings: &NetSettings) -> Result<(), AllocError>
     ensures { OnOk result (text.new.items
         ≡ text.old.items ++ flat_map option_line (time_options settings.now)) }
 {
     let timeout = settings.timeout.to_string(alloc)?;
-    let retry = settings.retry.to_string(alloc)?;
     push_valued(text, "connect-timeout", timeout.as_bytes())?;
     push_valued(text, "speed-limit", b"10")?;
     push_valued(text, "speed-time", timeout.as_bytes())?;
-    push_valued(text, "retry", retry.as_bytes())?;
+    push_valued(text, "max-filesize", b"104857600")?;
     Ok(())
 }
 
@@ -234,7 +222,9 @@ fn push_transfer(
         ≡ text.old.items ++ flat_map option_line (transfer_options settings.now room.now request.now)) }
 {
     push_files(alloc, text, room, request)?;
+    push_head(alloc, text, room, request)?;
     push_etag(alloc, text, request)?;
+    push_redirects(text)?;
     push_token(alloc, text, request)?;
     push_protocols(text, &request.url)?;
     push_common(text)?;

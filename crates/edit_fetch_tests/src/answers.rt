@@ -111,8 +111,9 @@ fn two_registries(rt: HostRuntime) -> Result<(), Fail> {
     let error = report.error.ok_or("no error")?;
     assert_eq!(rt;
         error.as_str(),
-        "index entries are neither had nor cached; leave the crates out by `--exclude`, \
-or as they are by `--offline`:\n  file:///idx: serde (invalid index line 2 of /idx/se/rd/serde)"
+        "index entries could not be fetched, and are not in the cache; \
+leave the crates out by `--exclude`, or as they are by `--offline`:\n  \
+file:///idx: serde (invalid index line 2 of /idx/se/rd/serde)"
     );
     Ok(())
 }

@@ -1,10 +1,12 @@
 //! Tests of plans of transfers, network settings, tokens and headers.
 mod addressless;
+mod retries;
 mod variables;
 
 use edit_fetch::{
-    Environment, FetchPlan, NetSettings, fetch_plan, is_header_text, net_settings,
-    registry_address, token_variable,
+    Environment, FetchPlan, NetSettings, Place, Provider, Providers, Reply, Step, counted_place,
+    fetch_config, fetch_plan, is_header_text, net_settings, next_step, provider_variable,
+    registry_address, token_variable, wants_token,
 };
 use edit_sources::config::read_configs;
 use edit_store::{MemoryStore, Store};
@@ -18,7 +20,8 @@ const LOOKUPS: &str =
 const CONFIG: &[u8] = b"url = \"https://index.example/se/rd/serde\"
 output = \"/room/1\"
 etag-save = \"/room/1.etag\"
-write-out = \"1\\t%{response_code}\\t%{exitcode}\\t%{num_redirects}\\t%{errormsg}\\n\"
+write-out = \"1\\t%{response_code}\\t%{exitcode}\\t%{num_redirects}\\t%{time_total}\\t%{errormsg}\\n\"
+dump-header = \"/room/1.head\"
 location
 max-redirs = \"5\"
 proto = \"=https\"
@@ -30,7 +33,7 @@ user-agent = \"cargo-edit/0.1.0\"
 connect-timeout = \"30\"
 speed-limit = \"10\"
 speed-time = \"30\"
-retry = \"3\"
+max-filesize = \"104857600\"
 ";
 
 #[test]
@@ -47,12 +50,78 @@ fn plans_only_sparse_lookups(rt: HostRuntime) -> Result<(), Fail> {
         room: "/room",
         settings: &settings,
         tokens: &[],
+        withheld: &[],
     };
     let mut store = MemoryStore::new(rt.alloc());
     let count = fetch_plan(rt.alloc(), &mut store, &plan, LOOKUPS)?;
     assert_eq!(rt; count, Some(1));
-    let config = store.read(rt.alloc(), "/room/curl")?.ok_or("no file")?;
+    let config = fetch_config(rt.alloc(), &mut store, &plan, LOOKUPS)?.ok_or("malformed")?;
     assert_eq!(rt; config.as_slice(), CONFIG);
+    Ok(())
+}
+
+#[test]
+fn requests_nothing_of_a_withheld_registry(rt: HostRuntime) -> Result<(), Fail> {
+    let settings = NetSettings {
+        offline: false,
+        retry: 3,
+        timeout: 30,
+        proxy: None,
+        cainfo: None,
+    };
+    let plan = FetchPlan {
+        cache: "/cache",
+        room: "/room",
+        settings: &settings,
+        tokens: &[],
+        withheld: &["sparse+https://index.example/"],
+    };
+    let mut store = MemoryStore::new(rt.alloc());
+    let config = fetch_config(rt.alloc(), &mut store, &plan, LOOKUPS)?.ok_or("malformed")?;
+    assert!(rt; config.is_empty());
+    Ok(())
+}
+
+#[test]
+fn asks_the_last_provider_first(rt: HostRuntime) -> Result<(), Fail> {
+    let providers = Providers {
+        own: false,
+        global: 2,
+    };
+    assert!(rt; matches!(next_step(providers, &[]), Step::Ask(Provider::Global(1))));
+    let one = [Reply::Nothing];
+    assert!(rt; matches!(next_step(providers, &one), Step::Ask(Provider::Global(0))));
+    let two = [Reply::Nothing, Reply::Token];
+    assert!(rt; matches!(next_step(providers, &two), Step::Decided(1)));
+    let none = [Reply::Nothing, Reply::Nothing];
+    assert!(rt; matches!(next_step(providers, &none), Step::Exhausted));
+    Ok(())
+}
+
+#[test]
+fn takes_the_environment_before_files(rt: HostRuntime) -> Result<(), Fail> {
+    assert!(rt; matches!(counted_place(true, true, &[true]), Some(Place::Environment)));
+    assert!(rt;
+        matches!(
+            counted_place(false, true, &[true]),
+            Some(Place::Credentials)
+        )
+    );
+    assert!(rt;
+        matches!(
+            counted_place(false, false, &[false, true]),
+            Some(Place::File(1))
+        )
+    );
+    assert!(rt; counted_place(false, false, &[false]).is_none());
+    assert!(rt; wants_token("401", false));
+    assert!(rt; wants_token("200", true));
+    assert!(rt; !wants_token("200", false));
+    let variable = provider_variable(rt.alloc(), "my-own")?.ok_or("no name")?;
+    assert_eq!(rt;
+        variable.as_str(),
+        "CARGO_REGISTRIES_MY_OWN_CREDENTIAL_PROVIDER"
+    );
     Ok(())
 }
 

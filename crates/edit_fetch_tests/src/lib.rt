@@ -11,6 +11,8 @@ mod fetch;
 #[cfg(test)]
 mod lock;
 #[cfg(test)]
+mod lock_bounds;
+#[cfg(test)]
 mod lookups;
 #[cfg(test)]
 mod shell;

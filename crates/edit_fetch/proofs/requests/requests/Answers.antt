@@ -8,11 +8,11 @@ loop-i-init g c = record {
   made = λ tells. none_yet _ _ _ c.new-requests.ensures.items;
 }
 
-pub loop-i-preserved-then-not-is_sparse_registry : goal.loop-i-preserved-then-not-is_sparse_registry
-loop-i-preserved-then-not-is_sparse_registry g c = record {
+pub loop-i-preserved-then-not-is_requested : goal.loop-i-preserved-then-not-is_requested
+loop-i-preserved-then-not-is_requested g c = record {
   store = c.loop-i.invariant.store;
-  made = λ tells. passed_more _ _ _ _ _ _ _ c.loop-i-test.true c.as_bytes.ensures.value
-      (c.loop-i.invariant.made tells) (sym c.is_sparse_registry.ensures ∙ c.if-not-is_sparse_registry.true);
+  made = λ tells. passed_more _ _ _ _ _ _ _ c.loop-i-test.true refl
+      (c.loop-i.invariant.made tells) (sym c.is_requested.ensures ∙ c.if-not-is_requested.true);
 }
 
 pub loop-i-preserved : goal.loop-i-preserved
@@ -26,8 +26,8 @@ loop-i-preserved g c =
         later = omega (arith, store.later, c.request.ensures.store.later);
       };
       made = λ tells. fetched_more _ _ _ _ _ _ _ c.in-Ok.request _ c.loop-i-test.true
-          c.as_bytes.ensures.value (c.loop-i.invariant.made tells)
-          (sym c.is_sparse_registry.ensures ∙ c.if-not-is_sparse_registry.false)
+          refl (c.loop-i.invariant.made tells)
+          (sym c.is_requested.ensures ∙ c.if-not-is_requested.false)
           (request_same _ _ _ _ _ _ store.files (c.in-Ok.ensures.request (store.tells ∙ tells)))
           c.in_ok-push-in-Ok.ensures.items;
     }

@@ -10,5 +10,4 @@ returns c = four_lines _ _ _ _ _ _ _ _ _
     c.in_ok-push_valued-2.ensures
     (line_same _ _ _ _ _ c.in_ok-push_valued-3.ensures
     (c.as_bytes-2.ensures.value ∙ c.in_ok-timeout.ensures.ok))
-    (line_same _ _ _ _ _ c.in_ok-push_valued-4.ensures
-    (c.as_bytes-3.ensures.value ∙ c.in_ok-retry.ensures.ok))
+    c.in_ok-push_valued-4.ensures

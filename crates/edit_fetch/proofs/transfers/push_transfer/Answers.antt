@@ -12,8 +12,10 @@ returns c =
     ∙ ap (λ url. c.push_token.new.text.items ++ flat_map option_line (protocol_options url))
     c.deref.ensures.value in
     then_more _ _ _ _ _ c.in_ok-push_files.ensures
+    (then_more _ _ _ _ _ c.in_ok-push_head.ensures
     (then_more _ _ _ _ _ c.in_ok-push_etag.ensures
+    (then_more _ _ _ _ _ c.in_ok-push_redirects.ensures
     (then_more _ _ _ _ _ c.in_ok-push_token.ensures
     (then_more _ _ _ _ _ protocols
     (then_more _ _ _ _ _ c.in_ok-push_common.ensures
-    (then_more _ _ _ _ _ c.in_ok-push_times.ensures c.in_ok-push_named.ensures)))))
+    (then_more _ _ _ _ _ c.in_ok-push_times.ensures c.in_ok-push_named.ensures)))))))

@@ -1,6 +1,6 @@
 use Rattle.std.proofs.Common.{◌≡◌, ◌++◌, ◌<◌, ℕ, map, take, string_bytes, get_or}
 use Rattle.edit_fetch.specs.Tokens.{variable_byte}
-use Rattle.edit_fetch.proofs.tokens.token_variable.Given as goal
+use Rattle.edit_fetch.proofs.tokens.registry_variable.Given as goal
 
 abbrev pub invariant-loop-byte : goal.invariant-loop-byte
 invariant-loop-byte l = (string_bytes l.variable
