@@ -39,3 +39,5 @@ pub mod StderrText
 pub mod Delivered
 pub mod DeliveryCauses
 pub mod Counted
+pub mod ChosenVersions
+pub mod LockPlans

@@ -7,8 +7,10 @@ use Rattle.edit_report.specs.declared.output.Output.{Output}
 use Rattle.edit_set_version.specs.PlanLines.{ReportLine}
 use Rattle.edit_set_version.specs.Planned.{plan_lines_view}
 use Rattle.edit_set_version.specs.declared.plan.SetVersionPlan.{SetVersionPlan}
+use Rattle.edit_set_version.specs.declared.plan.VersionChange.{VersionChange}
 use Rattle.edit_shown.specs.Diffs.{diffs}
 use Rattle.edit_shown.specs.Messages.{changes}
+use Rattle.edit_shown.specs.VersionChanges.{version_changes}
 use Rattle.edit_shown.specs.declared.presentation.MessageFormat.{MessageFormat}
 use Rattle.edit_shown.specs.declared.presentation.MessageFormat.TheVariants.{Human, Json, Markdown, Github, Numbered}
 use Rattle.edit_program.specs.declared.set_version_run.set_version_args.SetVersionArgs.{SetVersionArgs}
@@ -36,13 +38,13 @@ set_version_stderr_text args lines =
     ++ (statuses_in args.presentation.format lines
     ++ warning_if args.dry_run (codes "aborting set-version due to dry run"))
 
--- the lines as messages
-abbrev pub messages_in : MessageFormat → List ReportLine → List ℕ
-messages_in Human lines = []
-messages_in Json lines = changes lines
-messages_in Markdown lines = []
-messages_in Github lines = []
-messages_in Numbered lines = []
+-- the lines as messages, and then what they say in parts
+abbrev pub messages_in : MessageFormat → List ReportLine → List VersionChange → List ℕ
+messages_in Human lines parts = []
+messages_in Json lines parts = changes lines ++ version_changes parts
+messages_in Markdown lines parts = []
+messages_in Github lines parts = []
+messages_in Numbered lines parts = []
 
 -- the diffs of the manifests, where they are requested
 abbrev pub diffs_if : Bool → List ℕ → List Input → List Output → List ℕ
@@ -51,5 +53,5 @@ diffs_if wants_diff root inputs outputs = if wants_diff then diffs root inputs o
 -- on standard output: the lines as messages and the diffs of the manifests, where they are requested
 abbrev pub set_version_stdout_text : SetVersionArgs → List ℕ → List Input → SetVersionPlan → List ℕ
 set_version_stdout_text args root inputs plan =
-    messages_in args.presentation.format (plan_lines_view plan)
+    messages_in args.presentation.format (plan_lines_view plan) plan.changes.items
     ++ diffs_if args.presentation.diff root inputs plan.outputs.items

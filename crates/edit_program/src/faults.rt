@@ -26,7 +26,7 @@ fn at_stream(alloc: Global, failure: RunError) -> RunError
 
 /// Prints an error with its place, cause and help, where they are known, and returns the exit status, even
 /// where printing fails.
-pub(crate) fn print_failure<E: io::Write>(alloc: Global, failure: RunError, err: &mut E) -> u8
+pub fn print_failure<E: io::Write>(alloc: Global, failure: RunError, err: &mut E) -> u8
     ensures { result ≡ 1 }
 {
     let _ = print_error(alloc, &at_stream(alloc, failure), err);

@@ -5,6 +5,7 @@ mod args_error;
 mod cargo_builtin;
 mod commands;
 mod faults;
+mod lock_planner;
 mod lookup_lines;
 mod lookups;
 mod output_format;
@@ -17,5 +18,8 @@ mod upgrade_output;
 mod upgrade_parser;
 mod upgrade_run;
 
+pub use faults::print_failure;
+pub use lock_planner::lock_plan;
 pub use program::{run, try_run};
 pub use run_folders::RunFolders;
+pub use upgrade_run::{ChosenVersion, LockPlan};

@@ -1,8 +1,10 @@
 //! The command `upgrade`, over any files, any index and any writers.
 
 mod choosing;
+mod chosen_versions;
 mod delivering;
 mod following;
+mod lock_planning;
 mod lookup_printing;
 mod merging;
 mod plan;
@@ -14,6 +16,8 @@ mod unifying;
 pub mod upgrade_args;
 mod upgrading;
 
+pub use chosen_versions::ChosenVersion;
+pub use lock_planning::{LockPlan, plan_lock};
 pub use lookup_printing::print_lookups;
 pub use upgrade_args::UpgradeArgs;
 pub use upgrading::upgrade;

@@ -1,4 +1,5 @@
 //! The members of the response to a request.
+ghost use Rattle.std.specs.Prelude.{◌≡◌, None};
 
 use crate::edits::{Edit, edits_between};
 use crate::files::RequestFile;
@@ -75,7 +76,9 @@ pub(crate) fn put_changes(
 }
 
 /// The place of an error and the excerpt of the file that follows it, where each is known.
-fn place_and_excerpt(failure: &RunError) -> (Option<&str>, Option<&str>) {
+pub fn place_and_excerpt(failure: &RunError) -> (Option<&str>, Option<&str>)
+    ensures { failure.now.place ≡ None → (result.0 ≡ None) × (result.1 ≡ None) }
+{
     let Some(place) = failure.place.as_deref() else {
         return (None, None);
     };

@@ -11,3 +11,4 @@ mod options;
 mod request;
 
 pub use answer::{Response, answer_request};
+pub use fields::place_and_excerpt;

@@ -81,11 +81,18 @@ fn command_of(alloc: Global, members: &Members) -> Result<&str, RequestError> {
 fn push_manifests(
     alloc: Global,
     args: &mut Vec<String>,
+    command: &str,
     metadata: Option<&String>,
     manifests: &[RequestFile],
 ) -> Result<(), RequestError> {
     if let Some(path) = metadata {
         return Ok(push_pair(alloc, args, "metadata-json", path.as_str())?);
+    }
+    if command == "set-version" {
+        return Err(malformed_error(
+            alloc,
+            "the member `metadata` is missing: it says which members `set-version` has",
+        ));
     }
     match manifests {
         [only] => Ok(push_pair(alloc, args, "manifest-path", only.path.as_str())?),
@@ -127,7 +134,7 @@ fn read_members(alloc: Global, members: &Members) -> Result<Request, RequestErro
     let lock = lock_path(alloc, members, root, &mut store)?;
     let mut args = Vec::new(alloc);
     push_arg(alloc, &mut args, command)?;
-    push_manifests(alloc, &mut args, metadata.as_ref(), &manifests)?;
+    push_manifests(alloc, &mut args, command, metadata.as_ref(), &manifests)?;
     if command != "looks" {
         push_pair(alloc, &mut args, "message-format", "json")?;
     }

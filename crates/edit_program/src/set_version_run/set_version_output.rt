@@ -1,18 +1,20 @@
 //! What `set-version` prints.
-ghost use Rattle.std.specs.Prelude.{◌≡◌, ◌⊎◌, IfErr, OnOk, map};
+ghost use Rattle.std.specs.Prelude.{◌≡◌, ◌⊎◌, ◌++◌, IfErr, OnOk, map};
 ghost use Rattle.std.specs.Io.KnownBytes.{Appends};
 ghost use Rattle.edit_base.specs.Errors.{IsMemory};
 ghost use Rattle.edit_base.specs.declared.errors.Error.TheVariants.{Output};
 ghost use Rattle.edit_set_version.specs.Planned.{plan_lines_view};
 ghost use Rattle.edit_set_version.specs.LineViews.{report_line_view};
+ghost use Rattle.edit_shown.specs.Messages.{changes};
+ghost use Rattle.edit_shown.specs.VersionChanges.{version_changes};
 ghost use Rattle.edit_program.specs.Printed.{diffs_if, messages_in, set_version_stdout_text, statuses, statuses_in, warning_if};
 
 use crate::set_version_run::set_version_args::SetVersionArgs;
 use edit_base::CargoResult;
 use edit_metadata::Input;
 use edit_report::{shell_status, shell_warn};
-use edit_set_version::SetVersionPlan;
-use edit_shown::{MessageFormat, print_changes, print_diffs};
+use edit_set_version::{SetVersionPlan, VersionChange};
+use edit_shown::{MessageFormat, print_changes, print_diffs, print_version_changes};
 use std::alloc::Global;
 use std::io;
 
@@ -41,16 +43,33 @@ fn print_lines<E: io::Write>(lines: &[(String, String)], err: &mut E) -> CargoRe
     Ok(())
 }
 
-/// Prints the lines of a plan: as status lines, or as JSON messages on standard output.
+/// Prints the lines of a plan as JSON messages, and what they say in parts.
+fn print_messages<O: io::Write>(
+    alloc: Global,
+    lines: &[(String, String)],
+    parts: &[VersionChange],
+    out: &mut O,
+) -> CargoResult<()>
+    ensures text { OnOk result (Appends (O.contents out.old) (O.contents out.new)
+        (changes (map report_line_view lines.now) ++ version_changes parts.now)) }
+    ensures error { IfErr result (λ e. IsMemory e ⊎ (e ≡ Output)) }
+{
+    print_changes(alloc, lines, out)?;
+    print_version_changes(alloc, parts, out)
+}
+
+/// Prints the lines of a plan: as status lines, or as JSON messages on standard output, with what they say
+/// in parts.
 fn print_lines_in<O: io::Write, E: io::Write>(
     alloc: Global,
     format: MessageFormat,
     lines: &[(String, String)],
+    changes: &[VersionChange],
     out: &mut O,
     err: &mut E,
 ) -> CargoResult<()>
     ensures shown { OnOk result (Appends (O.contents out.old) (O.contents out.new)
-        (messages_in format (map report_line_view lines.now))) }
+        (messages_in format (map report_line_view lines.now) changes.now)) }
     ensures outcome { OnOk result (Appends (E.contents err.old) (E.contents err.new)
         (statuses_in format (map report_line_view lines.now))) }
     ensures error { IfErr result (λ e. IsMemory e ⊎ (e ≡ Output)) }
@@ -60,7 +79,7 @@ fn print_lines_in<O: io::Write, E: io::Write>(
         | MessageFormat::Markdown
         | MessageFormat::Github
         | MessageFormat::Numbered => print_lines(lines, err),
-        MessageFormat::Json => print_changes(alloc, lines, out),
+        MessageFormat::Json => print_messages(alloc, lines, changes, out),
     }
 }
 
@@ -101,6 +120,7 @@ pub(crate) fn print_plan<O: io::Write, E: io::Write>(
     ensures error { IfErr result (λ e. IsMemory e ⊎ (e ≡ Output)) }
 {
     let format = args.presentation.format;
-    print_lines_in(alloc, format, plan.lines.as_slice(), out, err)?;
+    let (lines, changes) = (plan.lines.as_slice(), plan.changes.as_slice());
+    print_lines_in(alloc, format, lines, changes, out, err)?;
     print_diffs_if(alloc, args.presentation.diff, root, inputs, plan, out)
 }
