@@ -177,12 +177,15 @@ begin_list() {
     exit 1
 }
 undo="; what was put there so far is removed by: '$here/install.sh' uninstall '$prefix'"
+# Where release/ has scripts of its own, its program is older than those beside it here and needs them.
+files=$here
+[ -n "$source" ] || [ ! -d "$here/release/bin" ] || files=$here/release
 put 755 "$program" bin/cargo-edit
-put 755 "$here/bin/cargo-upgrade" bin/cargo-upgrade
-put 755 "$here/bin/cargo-set-version" bin/cargo-set-version
-(cd "$here/share" && find . -type f | sort) > "$room/files"
+put 755 "$files/bin/cargo-upgrade" bin/cargo-upgrade
+put 755 "$files/bin/cargo-set-version" bin/cargo-set-version
+(cd "$files/share" && find . -type f | sort) > "$room/files"
 while IFS= read -r file; do
-    put 644 "$here/share/${file#./}" "share/${file#./}"
+    put 644 "$files/share/${file#./}" "share/${file#./}"
 done < "$room/files"
 printf '%s\n%s\n' "$("$program" --version)" "$origin" > "$room/origin"
 put 644 "$room/origin" "${list%/*}/origin"

@@ -22,8 +22,11 @@ trap 'rm -rf "$room"' EXIT
 top=$room/$name
 mkdir -p "$top/bin"
 cp "$program" "$top/bin/cargo-edit"
-cp "$here/bin/cargo-upgrade" "$here/bin/cargo-set-version" "$top/bin"
-cp -R "$here/share" "$here/docs" "$top"
+files=$here
+# (where release/ has scripts of its own, its program is older than the others and needs them)
+[ $# -eq 2 ] || [ ! -d "$here/release/bin" ] || files=$here/release
+cp "$files/bin/cargo-upgrade" "$files/bin/cargo-set-version" "$top/bin"
+cp -R "$files/share" "$here/docs" "$top"
 cp "$here/README.md" "$here/CHANGELOG.md" "$here/SECURITY.md" "$here/LICENSE-APACHE" "$here/LICENSE-MIT" "$here/install.sh" "$top"
 find "$top" -type f -exec chmod 644 {} +
 chmod 755 "$top/install.sh" "$top"/bin/*

@@ -20,6 +20,7 @@ GIT_CONFIG_GLOBAL=$room/gitconfig git clone -q "$here" "$room/clone"
 cd "$room/clone"
 if [ ! -f release/SOURCES ] || [ "$(head -n 1 release/SOURCES)" != "$(tools/sources)" ]; then
   mkdir -p release
+  rm -rf release/bin release/share
   cp "$program" release/cargo-edit
   tools/sources > release/SOURCES
   (cd release && sha256sum cargo-edit SOURCES TOOLCHAIN > SHA256SUMS)
