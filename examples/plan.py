@@ -6,6 +6,8 @@ import json
 import subprocess
 import sys
 
+if len(sys.argv) != 4:
+    sys.exit("usage: plan.py PROGRAM MANIFEST INDEX")
 program, manifest, index = sys.argv[1:]
 text = open(manifest, encoding="utf-8", newline="").read()
 request = {"version": 1, "command": "upgrade", "manifests": {"Cargo.toml": text}, "index": open(index, encoding="utf-8").read()}

@@ -34,6 +34,11 @@ class Entry:
         return self.written.endswith("...") or self.value is not None
 
     @property
+    def may_lack_value(self):
+        """Whether the option may stand without its value."""
+        return "[<" in self.written or "[without a value: " in self.text
+
+    @property
     def values(self):
         """The values that the help lists."""
         found = re.search(r"\[possible values: ([^\]]*)\]", self.text)
@@ -57,7 +62,8 @@ class Help:
 
     @property
     def commands(self):
-        return [it for heading, entries, _ in self.sections if heading == "Commands" for it in entries]
+        headings = ("Commands", "More commands")
+        return [it for heading, entries, _ in self.sections if heading in headings for it in entries]
 
     @property
     def options(self):

@@ -12,9 +12,6 @@ def flags_of(page):
     return [flag for entry in page.options for flag in entry.flags]
 
 
-# Most options whose values are listed may stand without one (the program fills it in), so another option may follow them.
-
-
 # bash: one function for each name on the command line. Cargo's own completion passes a command's arguments on without the
 # name of the command, so options are offered at every position.
 def bash_cases(page, indent):
@@ -50,12 +47,19 @@ complete -F {function} {name}
 """
 
 
-# Cargo's own completion passes a command's arguments to this function from bash-completion 2.12 on. Before, it knows options
-# by variables of its own alone, and completes others from a variable of that form.
+# Cargo's own completion passes a command's arguments to this function from bash-completion 2.12 on. Before, it completes
+# options from variables of this form alone, and no values: so `cargo` is completed by a function of our own there.
 BASH_OLD = """if [ "${{BASH_COMPLETION_VERSINFO[0]:-2}}" -eq 2 ] && [ "${{BASH_COMPLETION_VERSINFO[1]:-12}}" -lt 12 ]; then
     # cargo's own completion reads the options of a command here
     # shellcheck disable=SC2034
     opt__{variable}='{options}'
+    _cargo_with_edit() {{
+        case ${{COMP_WORDS[1]}} in
+            upgrade | set-version) "_cargo_${{COMP_WORDS[1]/-/_}}" ;;
+            *) ! declare -F _cargo > /dev/null || _cargo "$@" ;;
+        esac
+    }}
+    complete -F _cargo_with_edit cargo
 fi
 """
 
@@ -88,7 +92,7 @@ def zsh_lines(page):
         value = ""
         if entry.value:
             action = "(%s)" % " ".join(entry.values) if entry.values else "_files" if entry.is_path else ""
-            value = "%s%s:%s" % ("::" if entry.values else ":", zsh_text(entry.value), action)
+            value = "%s%s:%s" % ("::" if entry.may_lack_value else ":", zsh_text(entry.value), action)
         for flag in entry.flags:
             sign = "" if not entry.value else "=" if flag.startswith("--") else "+"
             front = "*" if entry.is_repeated else "(%s)" % " ".join(entry.flags)
@@ -132,7 +136,9 @@ def fish_lines(name, page, where):
         parts = ["complete -c %s%s" % (name, where)]
         parts += ["-%s %s" % ("l" if it.startswith("--") else "s", it.lstrip("-")) for it in entry.flags]
         if entry.value:
-            parts += ["-a " + fish_text(" ".join(entry.values)) if entry.values else "-r -F" if entry.is_path else "-x"]
+            # (-x: a value has to follow, and it is no file)
+            parts += ["-r -F" if entry.is_path else "-f" if entry.may_lack_value else "-x"]
+            parts += ["-a " + fish_text(" ".join(entry.values))] if entry.values else []
         lines.append(" ".join(parts + ["-d " + fish_text(entry.text)]))
     return lines
 

@@ -1,23 +1,42 @@
 # shellcheck shell=sh disable=SC2154
-# Sourced by bin/cargo-upgrade: brings Cargo.lock up to the manifests that were written. It uses what is set there: `tool`
-# (the program), `cargo`, `room` (the folder of this run), `lock` (the path of Cargo.lock), `calls` (the file of calls),
-# `offline` and `resolved`.
+# Sourced by bin/cargo-upgrade: updates Cargo.lock after the manifests were written. It uses these variables
+# of cargo-upgrade: `tool` (the program), `cargo`, `room` (the folder of this run), `lock` (the path of
+# Cargo.lock), `calls` (the file for the calls), `offline` and `to_lockfile`, and the functions of
+# resolve.sh. ROOM has the output of lock-plan, and before.lock, a copy of Cargo.lock from before the run,
+# if there was one.
 
-# The call of `cargo update` behind this number that is right for Cargo.lock as it is now, as text for the shell.
-next() { # --after NUMBER [--offline]
-    "$tool" next-call --calls "$calls" --lock-before "$room/before.lock" --lock-file "$lock" "$@"
+# Finds the next call of `cargo update` after the one with this number, fitted to Cargo.lock as it is now.
+# `call` is text for the shell, which sets `number` and the arguments; it is empty after the last call.
+find_call() { # NUMBER
+    call=$("$tool" next-call --calls "$room/stage" --lock-before "$room/stage.lock" --lock-file "$lock" \
+        --after "$1" ${offline:+"$offline"} 2> "$room/said") || return 1
+    shown < "$room/said" >&2 # the lines with `Run` and `Skipping`
 }
 
-# Makes the calls of `cargo update` that the upgrade wrote, each for the packages that Cargo.lock has by then.
-update_lock() {
-    number=0 failed=''
-    while call=$(next --after "$number" ${offline:+"$offline"}) || exit 1; [ -n "$call" ]; do
-        eval "$call" # sets number, and the arguments
-        "$cargo" "$@" < /dev/null || failed=yes
+# Runs cargo without standard input.
+call_cargo() { run_process "$cargo" "$@" < /dev/null; }
+
+# Makes the calls of `cargo update` of a stage, which name packages in Cargo.lock as it is before the first
+# of them. After a failure ROOM/said has the error.
+make_calls() { # STAGE
+    number=0 locked_now=$lock
+    cp "$lock" "$room/stage.lock" 2> /dev/null || { locked_now=$room/stage.lock; : > "$locked_now"; }
+    "$tool" update-calls --stage "$1" --lock-plan "$room/lock-plan" --metadata-json "$room/metadata.json" \
+        --lock-file "$locked_now" ${offline:+"$offline"} > "$room/stage" 2> "$room/said" || return 1
+    [ -s "$room/stage" ] || return 0
+    cat "$room/stage" >> "$calls" 2> "$room/said" || return 1
+    while find_call "$number" || return 1; [ -n "$call" ]; do
+        eval "$call"
+        attempt call_cargo "$@" ${publish_time:+--publish-time "$publish_time"} || return 1
     done
-    [ -z "$failed" ] ||
-        die "a call of \`cargo update\` failed: the manifests are written, Cargo.lock may not fit them"
-    warning="warning: Cargo.lock is not updated, since cargo did not resolve the workspace:"
-    [ -n "$resolved" ] || { echo "$warning"; shown < "$room/unresolved"; } >&2
-    [ -z "$resolved" ] || workspace --all-features || die "cargo does not resolve the manifests that are written"
+}
+
+# Makes the calls of all stages.
+make_all_calls() { make_calls precise && make_calls git && make_calls recursive; }
+
+# Updates Cargo.lock. If cargo cannot resolve the workspace, the run ends with an error. If a call fails,
+# ROOM/failed has the error, and the run continues.
+update_lock() {
+    resolve || unfit "$room/said"
+    [ -n "$to_lockfile" ] || make_all_calls || cp "$room/said" "$room/failed"
 }

@@ -2,7 +2,7 @@
 
 import json
 
-TEXT, MAYBE, TRUTH = "a text", "a text or null", "a truth value"
+TEXT, MAYBE, TRUTH, NUMBER = "a text", "a text or null", "a truth value", "a number or null"
 TEXTS, PLACE, CALLS = "a list of texts", "a place", "a list of lists of texts"
 WHY = ("latest", "compatible", "incompatible", "pinned", "git", "local", "excluded", None)
 CHANGE = ("explicit", "latest", "compatible", None)
@@ -17,9 +17,14 @@ MEMBERS = {
                         "pinned_present": TRUTH,
                         "incompatible_present": TRUTH, "update_calls": CALLS},
     "set-version-change": {"action": ("Upgrading", "Updating"), "message": TEXT},
+    "set-version-version": {"name": MAYBE, "old": TEXT, "new": TEXT, "path": TEXT, "inherited": TRUTH},
+    "set-version-requirement": {"name": TEXT, "old": TEXT, "new": TEXT, "path": TEXT, "inherited": TRUTH},
+    "error": {"number": NUMBER, "message": TEXT, "place": MAYBE, "excerpt": MAYBE, "cause": MAYBE, "help": MAYBE},
 }
 ORDER = {"upgrade": ("upgrade-row", "upgrade-warning", "upgrade-file", "upgrade-held-back", "upgrade-summary"),
-         "set-version": ("set-version-change",)}
+         "set-version": ("set-version-change", "set-version-version", "set-version-requirement")}
+# those that stand among the ones before them in that order
+AMONG = {"set-version-requirement": "set-version-version"}
 
 
 def is_texts(value):
@@ -31,7 +36,7 @@ def fits(value, form):
     """Whether a value has a form."""
     if isinstance(form, tuple):
         return value is None and None in form or isinstance(value, str) and value in form
-    return {TEXT: isinstance(value, str), MAYBE: value is None or isinstance(value, str),
+    return {NUMBER: value is None or isinstance(value, int), TEXT: isinstance(value, str), MAYBE: value is None or isinstance(value, str),
             TRUTH: isinstance(value, bool),
             TEXTS: is_texts(value), CALLS: isinstance(value, list) and all(map(is_texts, value)),
             PLACE: isinstance(value, list) and all(isinstance(one, str | int) for one in value)}[form]
@@ -68,7 +73,8 @@ def faults(command, messages):
         for name in form.keys() & message.keys():
             if not fits(message[name], form[name]):
                 yield f"the member {name} is not {form[name]}: {message}"
-    order = [reasons.index(message["reason"]) for message in messages if message.get("reason") in reasons]
+    known = [message["reason"] for message in messages if message.get("reason") in reasons]
+    order = [reasons.index(AMONG.get(reason, reason)) for reason in known]
     if order != sorted(order):
         yield "messages out of their order"
     summaries = sum(message.get("reason") == "upgrade-summary" for message in messages)

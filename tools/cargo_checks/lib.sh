@@ -34,6 +34,7 @@ begin() { # PROGRAM
   for _ in $(seq 100); do [ -f "$room/port" ] || sleep 0.1; done
   base=http://127.0.0.1:$(cat "$room/port")
   safe=https://127.0.0.1:$(cat "$room/tls-port")
+  other=http://127.0.0.1:$(cat "$room/other-port")
   [ -z "${HOME-}" ] || [ ! -d "$HOME/.rustup" ] || export RUSTUP_HOME="${RUSTUP_HOME:-$HOME/.rustup}"
   cargo=$(command -v cargo)
   unset http_proxy https_proxy HTTPS_PROXY ALL_PROXY all_proxy CARGO_TERM_COLOR
@@ -160,7 +161,7 @@ updates() { grep -E '^cargo update ' "$room/calls" || true; }
 all_rows() {
   local it row status failed=0 left=0 count=0 begun
   for row in ${ROWS:-$(declare -F | sed -n 's/^declare -f row_//p')}; do
-    for it in ws user tmp mode requests calls out err open served left_out; do rm -rf "${room:?}/$it"; done
+    for it in ws user tmp mode requests calls out err open served left_out all private walled seen; do rm -rf "${room:?}/$it"; done
     mkdir "$room/user" "$room/tmp"
     cp -R "$room/served.first" "$room/served"
     cp -R "$room/first" "$room/ws"

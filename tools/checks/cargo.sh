@@ -81,7 +81,8 @@ pinned='pinned` to upgrade pinned version requirements'
 incompatible='incompatible` to upgrade incompatible version requirements'
 verbose='verbose` to show more dependencies'
 git='--package local@0.1.0'
-raised='--aggressive --package dep@1.0.0 --package dep@2.4.0 --package filed@1.3.0 --package other@0.2.5 --package third@1.1.0'
+# (the resolution before these calls takes dep to 1.2.3)
+raised='--aggressive --package dep@1.2.3 --package dep@2.4.0 --package filed@1.3.0 --package other@0.2.5 --package third@1.1.0'
 raises() { # the tables of a whole upgrade
   prints << END
 name old req compatible latest new req note        
@@ -117,9 +118,7 @@ requires() { # the requirements of dep, other, third, the second dep, filed
 }
 
 held() { printf '  git: local\n  latest: %s\n' "${1:-a}"; }
-# (the call for the git dependency takes dep to 1.2.3, so the next one is for that version)
-moved='--aggressive --package dep@1.2.3 --package dep@2.4.0 --package filed@1.3.0 --package other@0.2.5 --package third@1.1.0'
-whole() { checking; calls "$git" "$raised"; others "$pinned" "$incompatible" "$verbose"; held; calls "$moved"; }
+whole() { checking; others "$pinned" "$incompatible" "$verbose"; held; calls "$git" "$raised"; }
 runs 0 upgrade --dry-run
 raises
 { checking; others "$pinned" "$incompatible" "$verbose"; held; echo 'warning: aborting upgrade due to dry run'; } | warns
@@ -178,7 +177,7 @@ name  old req compatible latest new req
 filed 1.0     1.3.0      1.3.0  1.3    
 END
 offline=yes
-{ checking; calls "$git" '--aggressive --package filed@1.3.0'; others "$verbose"; held '4 packages'; } | warns
+{ checking; others "$verbose"; held '4 packages'; calls "$git" '--aggressive --package filed@1.3.0'; } | warns
 offline=
 not_fetched cached
 requires 1.0 0.2.0 1.0 2.0 1.3
@@ -202,10 +201,9 @@ filed 1.0     1.3.0      1.3.0  1.3
 END
 {
   checking
-  calls "$git" "$raised"
   others "$pinned" "$verbose"
   held
-  calls '--aggressive --package dep@1.0.0 --package dep@2.0.0 --package dep@3.0.0 --package filed@1.3.0 --package other@0.2.5 --package third@1.1.0'
+  calls "$git" '--aggressive --package dep@1.0.0 --package dep@2.0.0 --package dep@3.0.0 --package filed@1.3.0 --package other@0.2.5 --package third@1.1.0'
 } | warns
 requires 2.0 0.2.5 1.1 3.0 1.3
 locks '1.2.3 2.0.0 3.0.0'
@@ -216,7 +214,7 @@ name  old req compatible latest new req
 ====  ======= ========== ====== =======
 third 1.0     1.1.0      1.1.0  1.1.0  
 END
-{ checking; calls '--precise 1.1.0 --package third@1.1.0'; others "$verbose"; echo '  excluded: 5 packages'; } | warns
+{ checking; others "$verbose"; echo '  excluded: 5 packages'; calls '--precise 1.1.0 --package third@1.1.0'; } | warns
 requires 1.0 0.2.0 1.1.0 2.0 1.0
 locks '1.0.0 2.4.0'
 again
@@ -234,10 +232,10 @@ filed 1.0     1.3.0      1.3.0  1.3
 END
 {
   checking
-  calls "$git" '--aggressive --package filed@1.3.0 --package other@0.2.5 --package third@1.1.0'
   others "$pinned" "$verbose"
   echo '  excluded: dep'
   held
+  calls "$git" '--aggressive --package filed@1.3.0 --package other@0.2.5 --package third@1.1.0'
 } | warns
 requires 1.0 0.2.5 1.1 2.0 1.3
 locks '1.2.3 2.4.0' # the dependency of third, which is brought along

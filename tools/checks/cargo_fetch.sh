@@ -268,7 +268,7 @@ row_control_characters_of_cargo() {
   cp -R Cargo.toml src "$odd"
   cd "$odd" || exit 1
   echo 'nowhere = "1.0"' >> Cargo.toml
-  on_terminal 0 upgrade
+  on_terminal 1 upgrade
   raised
   prints '/a ? ?b)'
 }
@@ -364,7 +364,7 @@ for number in (signal.SIGHUP, signal.SIGINT, signal.SIGTERM):
 os.setsid()
 os.execvp("cargo-upgrade", ["cargo-upgrade", "upgrade"])' > "$room/out" 2> "$room/err" < /dev/null &
     # (this run's own folder shows that it fetches: a request may be one of the run before)
-    while [ "$(requests)" -lt 1 ] || [ -z "$(find "$cache" -path '*/.run.*/curl' 2> /dev/null)" ]; do
+    while [ "$(requests)" -lt 1 ] || [ -z "$(find "$cache" -path '*/.run.*/again' 2> /dev/null)" ]; do
       kill -0 "$!" 2> /dev/null || fail "$signal: it asks for nothing"
       sleep 0.05
     done

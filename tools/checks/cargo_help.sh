@@ -27,10 +27,27 @@ row_man_pages() {
   for command in upgrade set-version; do
     sed 's/\\-/-/g' "$room/prefix/share/man/man1/cargo-$command.1" > "$room/page"
     of_the_command "$command" "$room/page"
-    for section in FILES ENVIRONMENT 'EXIT STATUS'; do
+    for section in EXAMPLES FILES ENVIRONMENT 'EXIT STATUS'; do
       grep -q -E "^\.SH \"?$section" "$room/page" || fail "no section $section of cargo-$command"
     done
+    grep -q NO_COLOR "$room/page" || fail "no NO_COLOR in the page of cargo-$command"
   done
+  grep -q '^\[workspace.metadata.cargo-edit\]' <(sed -n '/^\.SH POLICY/,$s/^ *//p' "$room/prefix/share/man/man1/cargo-upgrade.1" | sed 's/\\-/-/g') ||
+    fail 'no policy in the page of cargo-upgrade'
+}
+row_values_that_may_be_left_out() {
+  run 0 upgrade --help
+  has "$room/out" '-i, --incompatible [<allow|ignore>]'
+  has "$room/out" '--level <patch|minor|major>'
+  run 0 set-version --help
+  has "$room/out" '[possible values: major, minor, patch, release'
+}
+row_fish_offers_values_and_no_files() {
+  local file=$room/prefix/share/fish/vendor_conf.d/cargo-edit.fish
+  grep -q -E -- "upgrade' -l level -x -a 'patch minor major' " "$file" || fail '--level'
+  grep -q -E -- "upgrade' -l message-format -x -a 'human json markdown github' " "$file" || fail '--message-format'
+  grep -q -E -- "upgrade' -s i -l incompatible -f -a 'allow ignore' " "$file" || fail '--incompatible'
+  grep -q -E -- "set-version' -l bump -x -a 'major minor patch release rc beta alpha' " "$file" || fail '--bump'
 }
 row_completions() {
   local command file
@@ -57,6 +74,16 @@ row_bash_completes_cargo() {
       _cargo cargo "$4" "$3"
       echo "${COMPREPLY[@]}"' '' "$of_cargo" "$room/prefix/share/bash-completion/completions/cargo-$1" "$1" "$2"
   }
+  completed_value() { # COMMAND OPTION WORD: what `cargo COMMAND OPTION WORD` completes to
+    # shellcheck disable=SC2016
+    XDG_DATA_HOME="$room/prefix/share" bash -c '. /usr/share/bash-completion/bash_completion && . "$1" || exit 1
+      for it in upgrade set-version; do . "${2%/*}/cargo-$it"; done
+      COMP_WORDS=(cargo "$3" "$4" "$5") COMP_CWORD=3 COMP_LINE="cargo $3 $4 $5" COMP_POINT=${#COMP_LINE}
+      "$(complete -p cargo | sed "s/.*-F \([^ ]*\) .*/\1/")" cargo "$5" "$4"
+      echo "${COMPREPLY[@]}"' '' "$of_cargo" "$room/prefix/share/bash-completion/completions/cargo-$1" "$1" "$2" "$3"
+  }
+  [ "$(completed_value upgrade --level m)" = 'minor major' ] || fail "--level: $(completed_value upgrade --level m)"
+  [ "$(completed_value set-version --bump r)" = 'release rc' ] || fail "--bump: $(completed_value set-version --bump r)"
   [ "$(completed upgrade --never)" = --never-lower ] || fail "upgrade: $(completed upgrade --never)"
   [ "$(completed set-version --bu)" = --bump ] || fail "set-version: $(completed set-version --bu)"
 }

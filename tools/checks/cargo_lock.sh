@@ -19,7 +19,7 @@ begins() { # DEPENDENCIES [NAME@VERSION ..]
 }
 # Each call of `cargo update` names a package.
 scoped() {
-  ! updates | grep -v -e ' --package ' > "$room/log" || fail "a call without a package: $(cat "$room/log")"
+  ! updates | grep -v -e ' --package ' -e ' --workspace --locked ' > "$room/log" || fail "a call without a package: $(cat "$room/log")"
 }
 # Each call that is printed as `Run ..` is made as printed, and no other is made. (If an earlier call changed the
 # versions of its packages, a call is printed once more, with the new versions.)
@@ -84,25 +84,152 @@ row_not_recursive() {
   noted 0 upgrade --recursive false
   locks dep 1.0.0
 }
-# Where cargo cannot resolve the workspace, no call is made, and a message says that the lock file stays.
+# Cargo.lock is not what the manifests need: status 1, and an error that says what was written and what cargo says.
+unfit() { # REASON
+  says_once '^Error: the manifests are written, Cargo\.lock is not: '
+  says_like "^Error: the manifests are written, Cargo\\.lock is not: .*$1"
+  says_once '^  help: '
+}
+# Where cargo cannot resolve the workspace, no call is made, and the status is 1.
 row_unresolved() {
   begins "dep = \"1.0\"
 $git_dependency }" dep@1.0.0
   broken_cargo '*metadata*--no-deps*) ;; *metadata*'
-  broken 0 upgrade
+  broken 1 upgrade
   scoped
   same "$room/begun.lock" Cargo.lock
   has Cargo.toml 'dep = "1.2"'
-  says Cargo.lock
-  says 'out of luck'
+  unfit 'out of luck'
 }
 # A call of `cargo update` that fails: status 1, with its message, and the manifests are written.
 row_update_fails() {
   broken_cargo '*update*'
   broken 1 upgrade
   raised
-  says 'out of luck'
-  says_once '^Error: .*manifests? '
+  unfit 'out of luck'
+}
+# The version of `-p NAME@VERSION` is locked, whatever was locked before.
+row_precise_in_the_range() {
+  begins 'leaf = "0.1"' leaf@0.1.0
+  noted 0 upgrade -p leaf@0.1.3
+  locks leaf 0.1.3
+  printed_is_run
+}
+row_precise_beyond_the_range() {
+  begins 'leaf = "0.1"'
+  locks leaf 0.1.8
+  noted 0 upgrade -p leaf@0.3.0
+  locks leaf 0.3.0
+  lacks Cargo.lock 'version = "0.1.8"'
+}
+# So is the lower end of a requirement with `>=`, with what that version depends on.
+row_precise_lower_end() {
+  begins 'middle = "0.5"' middle@0.5.0
+  noted 0 upgrade -p 'middle@>=0.5.4'
+  locks middle 0.5.4
+  locks dep 1.2.3
+}
+# A version that is not published: cargo refuses it, though the requirement admits another one.
+row_precise_unpublished() {
+  begins 'leaf = "0.1"' leaf@0.1.0
+  noted 1 upgrade -p leaf@0.1.4
+  has Cargo.toml 'leaf = "0.1.4"'
+  unfit .
+}
+# What only the new version depends on is updated with it.
+row_new_dependencies() {
+  begins 'gains = "1.0"
+keeps = "=1.0.0"' gains@1.0.0 leaf@0.1.0
+  noted 0 upgrade
+  locks gains 1.2.0
+  locks leaf 0.1.8
+  printed_is_run
+}
+# What only the old version depended on stays.
+row_old_dependencies() {
+  begins 'loses = "1"
+keeps = "=1.0.0"' leaf@0.1.0
+  noted 0 upgrade -i
+  locks loses 2.0.0
+  locks leaf 0.1.0
+}
+# An upgrade that mends a workspace that cargo does not resolve: its lock file is made, or brought up to date.
+row_mended() {
+  rm -rf ./*
+  project . 'leaf = "0.1"'
+  sed -i 's/"0.1"/"0.9"/' Cargo.toml
+  cp Cargo.toml "$room/begun.toml"
+  noted 0 upgrade -i
+  has Cargo.toml 'leaf = "0.3"'
+  locks leaf 0.3.1
+  cp "$room/begun.toml" Cargo.toml
+  rm Cargo.lock
+  noted 0 upgrade -i
+  locks leaf 0.3.1
+}
+# Manifests that cargo does not resolve, whatever was before.
+row_broken_by_it() {
+  begins 'leaf = "0.1"'
+  noted 1 upgrade -p leaf@7
+  has Cargo.toml 'leaf = "7"'
+  same "$room/begun.lock" Cargo.lock
+  unfit 'leaf = "\^7"'
+}
+row_broken_before() {
+  begins "dep = \"1.0\"
+$git_dependency }" dep@1.0.0
+  echo 'absent = "1"' >> Cargo.toml
+  noted 1 upgrade
+  has Cargo.toml 'dep = "1.2"'
+  same "$room/begun.lock" Cargo.lock
+  unfit 'absent'
+  rm Cargo.lock
+  cp "$room/begun.toml" Cargo.toml
+  echo 'absent = "1"' >> Cargo.toml
+  noted 1 upgrade
+  [ ! -e Cargo.lock ] || fail 'Cargo.lock is made'
+  unfit 'absent'
+}
+# A requirement of `-p` that no published version has: a warning before anything is written, with the nearest ones.
+row_nothing_published() {
+  begins 'leaf = "0.1"'
+  run 0 upgrade -n -p leaf@0.2
+  says_once '^warning: no version of leaf is published that 0.2 admits; the nearest are 0.1.8 and 0.3.0$'
+  run 0 upgrade -n -p leaf@7
+  says_once '^warning: no version of leaf is published that 7 admits; the nearest is 0.3.1$'
+  run 0 upgrade -n -p leaf@0.3 --published-before 2000-01-01T00:00:00Z
+  silent 'is published that'
+  run 1 upgrade -p leaf@0.2
+  says_once '^warning: no version of leaf is published that 0.2 admits'
+}
+# upgrade --locked: a lock file that is missing or does not fit is an error before anything is written.
+row_upgrade_locked() {
+  begins 'dep = "1.2"'
+  run 0 upgrade --locked
+  rm Cargo.lock
+  cp Cargo.toml "$room/begun.toml"
+  run 1 upgrade --locked
+  says --locked
+  [ ! -e Cargo.lock ] || fail 'Cargo.lock is made'
+  same "$room/begun.toml" Cargo.toml
+  begins 'dep = "1.2"'
+  sed -i 's/"1.2"/"2"/' Cargo.toml
+  run 1 upgrade --locked
+  same "$room/begun.lock" Cargo.lock
+  begins 'dep = "1.0"'
+  run 1 upgrade --locked
+  same "$room/begun.toml" Cargo.toml
+  same "$room/begun.lock" Cargo.lock
+}
+# cargo is started four times, and resolves the workspace once; where nothing changes, twice.
+row_starts() {
+  noted 0 upgrade
+  sed -E 's/^(cargo [a-z-]+).*(--no-deps|--all-features|--aggressive|--workspace).*/\1 \2/' "$room/calls" > "$room/log"
+  printf '%s\n' 'cargo metadata --no-deps' 'cargo locate-project --workspace' 'cargo metadata --all-features' \
+    'cargo update --aggressive' | cmp -s - "$room/log" || fail "$(cat "$room/calls")"
+  : > "$room/calls"
+  noted 0 upgrade
+  [ "$(wc -l < "$room/calls")" = 2 ] || fail "$(cat "$room/calls")"
 }
 # The calls can be written to a file of the user's.
 row_update_calls() {
@@ -170,10 +297,12 @@ row_locked_stale() {
   run 1 set-version --locked -n 0.2.0
 }
 row_locked_fits() {
-  run 0 set-version --locked 0.2.0
+  run 1 set-version --locked 0.2.0
   has Cargo.toml 'version = "0.2.0"'
   same "$room/first/Cargo.lock" Cargo.lock
-  says Cargo.lock
+  unfit "--locked"
+  cp "$room/first/Cargo.toml" Cargo.toml
+  run 0 set-version --locked 0.1.0
 }
 row_set_version_locks() {
   noted 0 set-version 0.2.0
@@ -190,8 +319,20 @@ row_set_version_unresolved() {
   broken_cargo '*metadata*--no-deps*) ;; *metadata*'
   broken 1 set-version 0.2.0
   has Cargo.toml 'version = "0.2.0"'
-  says 'out of luck'
-  says_once '^Error: .*manifests? '
+  unfit 'out of luck'
+}
+# A workspace that cargo resolves, and then refuses to describe: its lock file is up to date.
+row_set_version_two_names() {
+  begins 'dep = "1.0"
+again = { package = "dep", version = "1.0" }'
+  ! cargo metadata --format-version 1 --all-features > "$room/log" 2>&1 || fail 'cargo takes two names for a package'
+  run 0 set-version 0.2.0
+  has Cargo.toml 'version = "0.2.0"'
+  locks a 0.2.0
+  says 'note: Cargo.lock fits the manifests all the same'
+  sed -i 's/"1.0"/"1.9"/' Cargo.toml
+  run 1 set-version 0.3.0
+  unfit 'dep = "\^1.9"'
 }
 # A member without `package.version` is an error that names its file and the option that leaves it out; nothing is
 # written.

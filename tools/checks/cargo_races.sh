@@ -160,21 +160,21 @@ row_full_disk() {
   publish
   for old in yes ''; do
     for size in 16 24 32 48 64 80 96 112 128 160 192 256; do
-      rm -rf "$room/seen"
+      rm -rf "$room/copy"
       status=0
       # (the mount is gone with the process that made it)
       # shellcheck disable=SC2016
       $space sh -c 'mkdir -p "$1" && mount -t tmpfs -o "size=$2k" tmpfs "$1" || exit 9
         if [ -n "$4" ]; then cp -R "$4/." "$1"; fi
         cargo upgrade -n; status=$?; cp -R "$1" "$3"; exit "$status"' \
-        '' "$cache" "$size" "$room/seen" "${old:+$room/filled}" > "$room/out" 2> "$room/err" || status=$?
+        '' "$cache" "$size" "$room/copy" "${old:+$room/filled}" > "$room/out" 2> "$room/err" || status=$?
       case $status in
         0) grep -q -E "^dep +1\.0 .* 1\.$((published + 2)) " "$room/out" || says_like '^warning: .*dep' ;;
         1) says_like '^Error: ' ;;
         *) fail "$size kB: status $status" ;;
       esac
-      [ -z "$(find "$room/seen" -name '.run*')" ] || fail "$size kB: the folder of the run is left"
-      find "$room/seen" -type f ! -name '*.etag' ! -name '.*' > "$room/entries"
+      [ -z "$(find "$room/copy" -name '.run*')" ] || fail "$size kB: the folder of the run is left"
+      find "$room/copy" -type f ! -name '*.etag' ! -name '.*' > "$room/entries"
       while IFS= read -r entry; do
         case $entry in
           */3/d/dep)

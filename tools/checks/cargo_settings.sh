@@ -118,17 +118,17 @@ row_token() {
   sed -i "s,^registry = \"sparse+[^\"]*\",registry = \"sparse+$base/two/\"," "$CARGO_HOME/config.toml"
   mkdir -p "$room/served/two/ot/he"
   cp "$room/served/one/ot/he/other" "$room/served/two/ot/he/other"
+  echo s3cret > "$room/private"
   CARGO_REGISTRIES_PRIVATE_TOKEN=s3cret run 0 upgrade -n
   shown
   grep -q '^/one/3/d/dep .* s3cret ' "$room/requests" || fail 'no token for the registry'
   grep -q '^/two/ot/he/other .* - ' "$room/requests" || fail 'a token for another one'
   nowhere s3cret
-  mode token s3cret
   rm -rf "$cache"
   run 1 upgrade -n --exclude other
   says_once 'dep'
   says 'token'
-  says_like 'CARGO_REGISTRIES_.*_TOKEN'
+  says CARGO_REGISTRIES_PRIVATE_TOKEN
 }
 row_token_of_a_name_with_hyphens() {
   private "sparse+$base/one/"
@@ -154,6 +154,7 @@ row_token_of_the_first_definition() {
   mkdir -p "$room/served/two/3/d"
   cp "$room/served/one/3/d/dep" "$room/served/two/3/d/dep"
   export CARGO_REGISTRIES_PRIVATE_INDEX="sparse+$base/one/"
+  echo s3cret > "$room/private"
   CARGO_REGISTRIES_PRIVATE_TOKEN=s3cret run 0 upgrade -n
   grep -q '^/two/3/d/dep .* - ' "$room/requests" || fail 'a token for an address that is no longer that of its registry'
 }
@@ -163,24 +164,19 @@ row_token_with_a_line_end() {
   mode token s3cret
   export CARGO_REGISTRIES_MY_OWN_TOKEN=$'s3cret\n'
   run 1 upgrade -n
-  says_once 'warning: .*CARGO_REGISTRIES_MY_OWN_TOKEN'
+  says 'CARGO_REGISTRIES_MY_OWN_TOKEN is not sent'
   silent s3cret
   export CARGO_REGISTRIES_MY_OWN_INDEX="sparse+$base/one/" CARGO_REGISTRIES_MY_OWN_TOKEN=$'s3cret\xff'
   run 1 upgrade -n
-  says_once 'warning: .*CARGO_REGISTRIES_MY_OWN_TOKEN'
+  says 'CARGO_REGISTRIES_MY_OWN_TOKEN is not sent'
   silent s3cret
-}
-row_token_is_not_redirected() {
-  private "sparse+$base/one/"
-  mode "redirect-once $base/elsewhere"
-  CARGO_REGISTRIES_PRIVATE_TOKEN=s3cret run 1 upgrade -n
-  ! grep -q '^/elsewhere' "$room/requests" || fail 'it follows a redirect with a token'
-  nowhere s3cret
 }
 row_token_by_plain_http() {
   private 'sparse+http://registry.invalid/one/'
-  CARGO_HTTP_PROXY="$base" CARGO_REGISTRIES_PRIVATE_TOKEN=s3cret run 0 upgrade -n
-  grep -q '^/one/3/d/dep .* - ' "$room/requests" || fail 'a token by plain http to another machine'
+  mode token s3cret
+  CARGO_HTTP_PROXY="$base" CARGO_REGISTRIES_PRIVATE_TOKEN=s3cret run 1 upgrade -n
+  says 'the token of CARGO_REGISTRIES_PRIVATE_TOKEN is not sent'
+  ! grep -q s3cret "$room/requests" "$room/seen" || fail 'a token by plain http to another machine'
 }
 
 # Registries that cannot be fetched: one line for each, status 1; with --offline their crates stay.

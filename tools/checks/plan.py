@@ -1,7 +1,9 @@
 #!/usr/bin/env python3
 """plan.py PROGRAM: `PROGRAM plan` beside runs of PROGRAM over files. Each case of tests/cases whose command, options and
 files a request can express is run both ways: the status and the new texts must be the same, and the edits of the
-response must turn the old texts into the new ones. examples/plan.py must raise examples/first as its README shows."""
+response must turn the old texts into the new ones. Requests, responses and the messages that cases print must fit
+docs/*.schema.json, whose copy of the messages' schema in that of plans is compared. examples/plan.py must raise
+examples/first as its README shows."""
 
 import difflib
 import importlib.machinery
@@ -12,6 +14,9 @@ import subprocess
 import sys
 import tempfile
 
+import json_schema
+
+sys.dont_write_bytecode = True
 ROOT = pathlib.Path(__file__).resolve().parents[2]
 COMMANDS = {"upgrade", "set-version"}
 # options with a value, with an optional value, and without one
@@ -32,6 +37,8 @@ def load_runner():
 
 
 CASES = load_runner()
+PLAN = json.loads((ROOT / "docs/plan.schema.json").read_text())
+MESSAGES = json.loads((ROOT / "docs/messages.schema.json").read_text())
 
 
 class Inexpressible(Exception):
@@ -119,6 +126,11 @@ def fault_of(case, program):
         request = request_of(case, room)
         run = subprocess.run([program, "plan"], input=json.dumps(request).encode(), capture_output=True, check=False)
         response = json.loads(run.stdout)
+        for name, value in (("request", request), ("response", response)):
+            # (the schema of these values alone names the fault better than `anyOf` with both)
+            faults = json_schema.Schema({**PLAN, "anyOf": [{"$ref": "#/$defs/" + name}]}).faults(value)
+            if faults:
+                return "the %s: %s" % (name, faults[0])
         if "metadata" in request and (response["error"] or {}).get("message", "").startswith("the request is not JSON"):
             # (metadata that no JSON reader of the program takes are malformed within a request too)
             raise Inexpressible("metadata")
@@ -155,6 +167,22 @@ def check_cases(program):
     return count, faults
 
 
+def message_faults():
+    """The faults of messages that cases print in JSON, and of the copy of their schema."""
+    schema, faults, count = json_schema.Schema(MESSAGES), [], 0
+    if PLAN["$defs"]["messages"] != MESSAGES:
+        faults.append("docs/plan.schema.json has another schema of messages than docs/messages.schema.json")
+    for path in sorted((ROOT / "tests/cases").glob("*/*.toml")):
+        for case in CASES.read_cases(path):
+            lines = [line for line in case.get("stdout", "").splitlines() if line.startswith('{"')]
+            # (`plan` and `lock-plan` print one document, which is no message)
+            if case.get("args", [])[:1] not in (["plan"], ["lock-plan"]) and "json" in " ".join(case.get("args", [])):
+                for line in lines:
+                    count += 1
+                    faults += ["%s: %s" % (case["title"], it) for it in schema.faults(json.loads(line))]
+    return faults + (["only %d messages of cases" % count] if count < 50 else [])
+
+
 def check_example(program):
     """The fault of examples/plan.py over examples/first, or `None`."""
     first = ROOT / "examples/first"
@@ -170,6 +198,7 @@ def check_example(program):
 def main():
     program = str(pathlib.Path(sys.argv[1]).resolve())
     count, faults = check_cases(program)
+    faults += message_faults()
     example = check_example(program)
     if example:
         faults.append(example)

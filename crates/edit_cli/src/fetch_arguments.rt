@@ -14,6 +14,8 @@ pub(crate) struct FetchArguments<'a> {
     pub room: &'a str,
     /// Whether nothing may be fetched.
     pub offline: bool,
+    /// A file with lookups, which are fetched instead of the lookups of the upgrade.
+    pub lookups: Option<&'a str>,
     /// The arguments of the upgrade whose index entries are fetched.
     pub upgrade: &'a [&'a str],
 }
@@ -33,7 +35,9 @@ pub(crate) fn read_arguments<'a>(arguments: &'a [&'a str]) -> Option<FetchArgume
     let cache = value_of(options, "--cache")?;
     let room = value_of(options, "--room")?;
     let offline = options.iter().any(|option| *option == "--offline");
+    let lookups = value_of(options, "--lookups");
     let count = if offline { 5 } else { 4 };
+    let count = if lookups.is_some() { count + 2 } else { count };
     if options.len() != count {
         return None;
     }
@@ -41,6 +45,7 @@ pub(crate) fn read_arguments<'a>(arguments: &'a [&'a str]) -> Option<FetchArgume
         cache,
         room,
         offline,
+        lookups,
         upgrade,
     })
 }
@@ -49,7 +54,7 @@ pub(crate) fn read_arguments<'a>(arguments: &'a [&'a str]) -> Option<FetchArgume
 pub(crate) fn print_usage<E: Write>(name: &str, err: &mut E) -> u8 {
     let _ = writeln!(
         err,
-        "Usage: cargo-edit {name} --cache DIR --room DIR [--offline] -- UPGRADE-ARGUMENTS.."
+        "Usage: cargo-edit {name} --cache DIR --room DIR [--lookups FILE] [--offline] -- UPGRADE-ARGUMENTS.."
     );
     2
 }

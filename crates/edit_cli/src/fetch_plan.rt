@@ -1,9 +1,8 @@
-//! The subcommand `fetch-plan`: writes a configuration of curl that fetches index entries.
+//! The subcommand `fetch-plan`: lists the index entries that are fetched.
 
 mod configurations;
 mod environment;
 mod registry_errors;
-mod tokens;
 
 use crate::fetch_arguments::{
     FetchArguments, excluded_names, metadata_file, print_usage, read_arguments, upgrade_matches,
@@ -11,18 +10,47 @@ use crate::fetch_arguments::{
 use crate::machine::variable;
 use crate::parsing::filled_args;
 use clap::ArgMatches;
-use configurations::{all_configs, write_configurations};
+use configurations::{all_configs, write_configurations, written_configuration};
 use edit_base::paths::join;
-use edit_base::{CargoResult, Error};
-use edit_fetch::{Environment, FetchPlan, NetSettings, Token, net_settings};
+use edit_base::{CargoResult, DeviceCall, Error};
+use edit_fetch::{Environment, FetchPlan, NetSettings, net_settings};
 use edit_program::run;
 use edit_sources::Config;
 use edit_sources::config::read_configs;
-use edit_store::HostStore;
+use edit_store::{HostStore, Store};
 use registry_errors::unfetchable_error;
 use std::io::Write;
 use std::str;
-use tokens::registry_tokens;
+
+/// What decides the transfers of a run beside its lookups.
+#[derive(Drop)]
+pub(crate) struct Network {
+    pub(crate) settings: NetSettings,
+    /// The registries that variables define.
+    pub(crate) environment: Config,
+    /// The configurations of the current folder.
+    pub(crate) configs: Vec<Config>,
+}
+
+/// Reads what decides the transfers of a run for which `fetch-plan` was called.
+pub(crate) fn read_network(
+    rt: &HostRuntime,
+    room: &str,
+    current: &str,
+    home: Option<&str>,
+) -> CargoResult<Network> {
+    let alloc = rt.alloc();
+    let mut files = HostStore::new(rt.clone()?);
+    let environment = written_configuration(rt, &mut files, room)?;
+    let manifest_path = join(alloc, current, "Cargo.toml")?;
+    let configs = read_configs(alloc, &mut files, manifest_path.as_str(), home)?;
+    let settings = settings(rt, &mut files, &configs)?;
+    Ok(Network {
+        settings,
+        environment,
+        configs,
+    })
+}
 
 /// Runs `fetch-plan`, and returns the exit status: that of `looks` where that is not 0, 1 for registries
 /// whose entries cannot be fetched, and 2 for a usage error.
@@ -41,7 +69,17 @@ pub(crate) fn fetch_plan<E: Write>(
         Ok(matches) => matches,
         Err(status) => return Ok(status),
     };
-    plan_upgrade(rt, &arguments, &matches, current, home, err)
+    match plan_upgrade(rt, &arguments, &matches, current, home, err) {
+        Err(Error::Device(DeviceCall::Write)) => {
+            let _ = writeln!(
+                err,
+                "Error: the cache could not be written, at {}",
+                arguments.room
+            );
+            Ok(1)
+        }
+        other => other,
+    }
 }
 
 /// Plans the transfers of an upgrade, and returns the exit status.
@@ -69,6 +107,7 @@ fn plan_upgrade<E: Write>(
     let configs = read_configs(rt.alloc(), &mut files, manifest_path.as_str(), home)?;
     let mut settings = settings(rt, &mut files, &configs)?;
     settings.offline = settings.offline || arguments.offline;
+    write_retries(rt, &mut files, room.as_str(), &settings)?;
     let excluded = excluded_names(matches).unwrap_or(&[]);
     if !settings.offline
         && let Some(error) = unfetchable_error(rt, text, excluded, &environment, &all)?
@@ -76,14 +115,46 @@ fn plan_upgrade<E: Write>(
         let _ = writeln!(err, "Error: {error}");
         return Ok(1);
     }
-    let tokens = registry_tokens(rt, &environment, &configs, err)?;
-    let count = plan_lookups(rt, &mut files, arguments, current, &settings, &tokens, text)?;
+    let count = plan_lookups(rt, &mut files, arguments, current, &settings, text)?;
     print_count(rt, count, err)
+}
+
+/// Writes how often a failed transfer is tried again into the file `retry` in the folder of this run.
+fn write_retries(
+    rt: &HostRuntime,
+    files: &mut HostStore<HostRuntime>,
+    room: &str,
+    settings: &NetSettings,
+) -> CargoResult<()> {
+    let path = join(rt.alloc(), room, "retry")?;
+    let text = settings.retry.to_string(rt.alloc())?;
+    files.write(rt.alloc(), path.as_str(), text.as_bytes())
+}
+
+/// Appends the lookups of a file, where one is given, else those of the upgrade, and returns the exit
+/// status.
+fn lookups_text<E: Write>(
+    rt: &HostRuntime,
+    arguments: &FetchArguments<'_>,
+    current: &str,
+    home: Option<&str>,
+    text: &mut Vec<u8>,
+    err: &mut E,
+) -> CargoResult<u8> {
+    let Some(named) = arguments.lookups else {
+        return upgrade_lookups(rt, arguments, current, home, text, err);
+    };
+    let path = join(rt.alloc(), current, named)?;
+    match HostStore::new(rt.clone()?).read(rt.alloc(), path.as_str())? {
+        Some(bytes) => text.extend_from_slice(&bytes)?,
+        None => return Err(Error::NoPath),
+    }
+    Ok(0)
 }
 
 /// Runs `looks` with the arguments of the upgrade, appends its output to `text`, and returns the exit
 /// status.
-fn lookups_text<E: Write>(
+fn upgrade_lookups<E: Write>(
     rt: &HostRuntime,
     arguments: &FetchArguments<'_>,
     current: &str,
@@ -117,23 +188,16 @@ fn plan_lookups(
     arguments: &FetchArguments<'_>,
     current: &str,
     settings: &NetSettings,
-    owned: &[(String, String)],
     text: &str,
 ) -> CargoResult<Option<usize>> {
-    let mut tokens = Vec::new(rt.alloc());
-    for (address, token) in owned {
-        tokens.push(Token {
-            address: address.as_str(),
-            token: token.as_str(),
-        })?;
-    }
     let cache = join(rt.alloc(), current, arguments.cache)?;
     let room = join(rt.alloc(), current, arguments.room)?;
     let plan = FetchPlan {
         cache: cache.as_str(),
         room: room.as_str(),
         settings,
-        tokens: &tokens,
+        tokens: &[],
+        withheld: &[],
     };
     edit_fetch::fetch_plan(rt.alloc(), files, &plan, text)
 }

@@ -1,5 +1,6 @@
 //! The subcommands `fetch-store`, which stores the index entries that curl fetched, and `check-curl`.
 
+use crate::credentials::note_answers;
 use crate::fetch_arguments::{
     FetchArguments, excluded_names, print_usage, read_arguments, upgrade_matches,
 };
@@ -12,8 +13,8 @@ use edit_base::{CargoResult, DeviceCall, Error};
 use std::io::Write;
 use std::{fs, process};
 
-/// Runs `fetch-store`, and returns the exit status: 1 where entries are neither fetched nor cached, and 2
-/// for a usage error.
+/// Runs `fetch-store`, and returns the exit status: 1 if an entry is neither fetched nor cached, and 2 for
+/// a usage error.
 pub(crate) fn fetch_store<E: Write>(
     rt: &HostRuntime,
     arguments: &[&str],
@@ -55,6 +56,7 @@ fn store<E: Write>(
         let _ = writeln!(err, "Error: Failed to make the folder {index}");
         return Ok(1);
     }
+    note_answers(rt, room.as_str())?;
     let mut files = CacheStore::new(rt.clone()?, process::id(rt.process()));
     match store_answers(rt.alloc(), &mut files, &places, options) {
         Ok(report) => {
@@ -83,7 +85,7 @@ fn print_report<E: Write>(report: &Report, err: &mut E) -> u8 {
 }
 
 /// Runs `check-curl TEXT`, where TEXT is the output of `curl --version`, and returns the exit status: 1,
-/// with an error, where curl is missing or too old.
+/// with an error, if curl is missing or too old.
 pub(crate) fn check_curl<E: Write>(arguments: &[&str], err: &mut E) -> u8 {
     let text = arguments.first().copied().unwrap_or("");
     if is_new_enough(text) {

@@ -3,27 +3,37 @@
 
 mod checks;
 mod color;
+mod credentials;
+mod failures;
 mod fetch_arguments;
 mod fetch_plan;
+mod fetch_retry;
+mod fetch_steps;
 mod fetch_store;
+mod lock_bounds;
+mod lock_plan;
+mod lock_plan_json;
+mod locked_packages;
 mod machine;
 mod next_call;
 mod parsing;
 mod plan;
+mod script_commands;
 mod shell_options;
+mod shell_words;
 mod streams;
+mod unpublished;
+mod update_calls;
 
 use checks::{Folders, fault_of};
 use clap::ArgMatches;
-use edit_base::paths::join;
 use edit_base::{CargoResult, Error};
-use edit_program::run;
+use edit_program::{RunFolders, try_run};
 use edit_store::HostStore;
 use edit_words::{command, insert_defaults};
-use fetch_store::{check_curl, fetch_store};
-use machine::{machine_error, variable};
-use next_call::next_call;
-use shell_options::shell_options;
+use failures::end_with;
+use machine::{cargo_home, machine_error};
+use script_commands::{run_fileless, run_own};
 use std::io::{ErrorKind, Write};
 use std::process::ExitCode;
 use std::{env, process};
@@ -103,8 +113,30 @@ fn start(rt: &HostRuntime) -> CargoResult<u8> {
     let texts: Vec<&str> = args.iter().map(|arg| arg.as_str()).collect(rt.alloc())?;
     let args = texts.as_slice();
     match args.first().copied() {
-        Some("check-curl" | "plan" | "shell-options") => return run_fileless(rt, args),
-        Some("fetch-plan" | "fetch-store" | "next-call") => return start_in(rt, args, None),
+        Some(
+            "check-curl"
+            | "credential-reply"
+            | "error-message"
+            | "plan"
+            | "shell-options"
+            | "shell-words",
+        ) => return run_fileless(rt, args),
+        Some(
+            "credential-probes"
+            | "credential-request"
+            | "fetch-config"
+            | "fetch-plan"
+            | "fetch-retry"
+            | "fetch-round"
+            | "fetch-store"
+            | "lock-lookups"
+            | "lock-plan"
+            | "next-call"
+            | "set-backs"
+            | "update-calls",
+        ) => {
+            return start_in(rt, args, None);
+        }
         _ => {}
     }
     let filled = insert_defaults(rt.alloc(), args)?;
@@ -183,48 +215,6 @@ fn run_checked(
     run_at(rt, args, folders, options)
 }
 
-/// Runs a subcommand that needs no file. The first argument is its name.
-fn run_fileless(rt: &HostRuntime, args: &[&str]) -> CargoResult<u8> {
-    let Some((first, arguments)) = args.split_first() else {
-        return Ok(2);
-    };
-    let mut err = errors(rt)?;
-    match *first {
-        "check-curl" => Ok(check_curl(arguments, &mut err)),
-        "plan" => plan::plan(rt, arguments, &mut err),
-        _ => {
-            let mut out = output(rt)?;
-            Ok(shell_options(rt.alloc(), arguments, &mut out, &mut err))
-        }
-    }
-}
-
-/// Runs a subcommand for the scripts that reads files. The first argument is its name.
-fn run_own(rt: &HostRuntime, args: &[&str], folders: Folders<'_>) -> CargoResult<u8> {
-    let Some((first, arguments)) = args.split_first() else {
-        return Ok(2);
-    };
-    let current = folders.current;
-    let mut err = errors(rt)?;
-    match *first {
-        "fetch-plan" => fetch_plan::fetch_plan(rt, arguments, current, folders.home, &mut err),
-        "fetch-store" => fetch_store(rt, arguments, current, &mut err),
-        _ => next_call_at(rt, arguments, current, &mut err),
-    }
-}
-
-/// Runs the arguments of `next-call` in a folder.
-fn next_call_at<E: Write>(
-    rt: &HostRuntime,
-    arguments: &[&str],
-    current: &str,
-    err: &mut E,
-) -> CargoResult<u8> {
-    let mut files = HostStore::new(rt.clone()?);
-    let mut out = output(rt)?;
-    Ok(next_call(rt.alloc(), arguments, current, &mut files, &mut out, err))
-}
-
 /// Runs a subcommand of `edit_program`, with streams for a report with these options.
 fn run_at(
     rt: &HostRuntime,
@@ -236,33 +226,28 @@ fn run_at(
     let index_files = HostStore::new(rt.clone()?);
     let mut out = report_output(rt, options)?;
     let mut err = report_errors(rt, options)?;
-    let status = run(
+    let place = RunFolders {
+        current: folders.current,
+        cargo_home: folders.home,
+    };
+    let result = try_run(
         rt.alloc(),
         args,
-        folders.current,
-        folders.home,
+        &place,
         &mut files,
         index_files,
         &mut out,
         &mut err,
     );
+    let status = match result {
+        Ok(status) => status,
+        Err(failure) => end_with(rt.alloc(), failure, options.is_json(), &mut out, &mut err),
+    };
     let is_printed = out.flush().is_ok();
     let _ = err.flush();
     if is_printed || status != 0 {
         Ok(status)
     } else {
         Err(Error::Output)
-    }
-}
-
-/// The home folder of cargo: `CARGO_HOME`, else `.cargo` in `HOME`, else none. An empty variable counts as
-/// unset.
-fn cargo_home(rt: &HostRuntime) -> CargoResult<Option<String>> {
-    if let Some(home) = variable(rt, "CARGO_HOME")? {
-        return Ok(Some(home));
-    }
-    match variable(rt, "HOME")? {
-        Some(home) => Ok(Some(join(rt.alloc(), home.as_str(), ".cargo")?)),
-        None => Ok(None),
     }
 }

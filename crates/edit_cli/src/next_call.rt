@@ -1,8 +1,9 @@
-//! The subcommand `next-call`: the next call of `cargo update` that is right against the lock file as it is
-//! now. The script behind `cargo upgrade` uses it before each call, since the one before it may have changed
-//! the lock file.
+//! The subcommand `next-call`: the next call of `cargo update`, fitted to the lock file as it is now. The
+//! script behind `cargo upgrade` runs it before each call, since the previous call may have changed the
+//! lock file.
 
 use crate::parsing::print_parse_error;
+use crate::shell_words::words_text;
 use clap::builder::ValueParser;
 use clap::{Arg, ArgAction, ArgMatches, Command};
 use edit_base::Error;
@@ -27,7 +28,12 @@ struct Next<'a> {
 }
 
 /// A required option with a value.
-fn required_option<'a>(alloc: Global, id: &'a str, value: &'a str, help: &'a str) -> Arg<'a> {
+pub(crate) fn required_option<'a>(
+    alloc: Global,
+    id: &'a str,
+    value: &'a str,
+    help: &'a str,
+) -> Arg<'a> {
     Arg::new(alloc, id)
         .long(id)
         .help(help)
@@ -38,7 +44,7 @@ fn required_option<'a>(alloc: Global, id: &'a str, value: &'a str, help: &'a str
 }
 
 /// The flag for calls that must not fetch anything.
-fn offline_flag<'a>(alloc: Global) -> Arg<'a> {
+pub(crate) fn offline_flag<'a>(alloc: Global) -> Arg<'a> {
     Arg::new(alloc, "offline")
         .long("offline")
         .help("The call fetches nothing")
@@ -57,7 +63,7 @@ fn command<'a>(alloc: Global) -> Result<Command<'a>, AllocError> {
             alloc,
             "calls",
             "FILE",
-            "The file that `upgrade --update-calls` wrote",
+            "The file that `update-calls` printed",
         ))?
         .arg(required_option(
             alloc,
@@ -124,20 +130,29 @@ fn read_file<S: Store>(
     Ok(read_calls(alloc, text)?)
 }
 
-/// Prints a call for a shell: its number, and the arguments for cargo. Where the call differs from the one
-/// in the file, which was printed before, a status line shows it.
+/// Shows a call on a status line, quoted for a shell.
+fn print_status<E: io::Write>(
+    alloc: Global,
+    status: &str,
+    call: &[String],
+    err: &mut E,
+) -> RunResult<()> {
+    let text = words_text(alloc, call)?;
+    match std::str::from_utf8(&text) {
+        Ok(text) => Ok(shell_status(err, status, text)?),
+        Err(_) => Err(RunError::from(Error::NotUtf8)),
+    }
+}
+
+/// Prints a call for a shell: its number, and the arguments for cargo. A status line shows it.
 fn print_call<O: io::Write, E: io::Write>(
     alloc: Global,
     number: usize,
     call: &[String],
-    is_same: bool,
     out: &mut O,
     err: &mut E,
 ) -> RunResult<()> {
-    if !is_same {
-        let message = call.join(alloc, " ")?;
-        shell_status(err, "Run", message.as_str())?;
-    }
+    print_status(alloc, "Run", call, err)?;
     // the first argument is `cargo` itself
     let arguments = call.get(1..).unwrap_or(&[]);
     let mut text = Vec::new(alloc);
@@ -150,8 +165,8 @@ fn print_call<O: io::Write, E: io::Write>(
     }
 }
 
-/// Prints the first call after `next.after` of which a package is still locked, and nothing where there is
-/// none. A status line is printed for each call that is skipped.
+/// Prints the first call after number `next.after` with a package that is still locked; nothing if there is
+/// none. A status line shows each call that is skipped.
 fn print_next<S: Store, O: io::Write, E: io::Write>(
     alloc: Global,
     next: &Next<'_>,
@@ -168,10 +183,9 @@ fn print_next<S: Store, O: io::Write, E: io::Write>(
         let given = &calls[index..index + 1];
         let standing = adapt_calls(alloc, given, &before, &now, next.offline)?;
         if let Some(made) = standing.first() {
-            return print_call(alloc, index + 1, made, made == call, out, err);
+            return print_call(alloc, index + 1, made, out, err);
         }
-        let message = call.join(alloc, " ")?;
-        shell_status(err, "Skipping", message.as_str())?;
+        print_status(alloc, "Skipping", call, err)?;
     }
     Ok(())
 }

@@ -1,10 +1,10 @@
 //! The subcommand `plan`: answers a request in JSON on standard input.
 
-use crate::machine::machine_error;
+use crate::machine::read_input;
 use crate::streams::output;
 use edit_base::CargoResult;
 use edit_request::answer_request;
-use std::io::{Read, Write};
+use std::io::Write;
 
 /// The greatest number of bytes of a request.
 const LIMIT: u64 = 1_000_000_000;
@@ -18,17 +18,8 @@ Usage: cargo-edit plan < REQUEST
 The request and the response are described in docs/PLAN.md and docs/plan.schema.json.
 ";
 
-/// Reads the request from standard input.
-fn read_request(rt: &HostRuntime) -> CargoResult<Vec<u8>> {
-    let mut request = Vec::new(rt.alloc());
-    match rt.stdin().take(LIMIT + 1).read_to_end(&mut request) {
-        Ok(_) => Ok(request),
-        Err(error) => Err(machine_error(error)),
-    }
-}
-
-/// Runs `plan` with these arguments, and returns the exit status: 0 where the request was carried out, 1 for
-/// an error of the plan, and 2 for a malformed request or wrong options.
+/// Runs `plan` with these arguments, and returns the exit status: 0 where the request was carried out, 1
+/// for an error of the plan, and 2 for a malformed request or wrong options.
 pub(crate) fn plan<E: Write>(rt: &HostRuntime, arguments: &[&str], err: &mut E) -> CargoResult<u8> {
     let mut out = output(rt)?;
     match arguments.first().copied() {
@@ -45,7 +36,7 @@ pub(crate) fn plan<E: Write>(rt: &HostRuntime, arguments: &[&str], err: &mut E) 
         }
         None => {}
     }
-    let request = read_request(rt)?;
+    let request = read_input(rt, LIMIT + 1)?;
     if request.len() as u64 > LIMIT {
         let _ = writeln!(err, "error: the request has more than {LIMIT} bytes");
         return Ok(2);

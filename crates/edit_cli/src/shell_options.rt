@@ -1,12 +1,13 @@
 //! The subcommand `shell-options`: the arguments of the scripts in `bin/`, parsed, as text for a shell to
 //! evaluate.
 
-use crate::parsing::{filled_args, parse_args, print_parse_error};
+use crate::parsing::filled_args;
 use clap::ArgMatches;
 use clap::error::ErrorKind;
-use edit_base::Error;
+use edit_base::{CargoResult, Error};
 use edit_shell::push_assignment;
 use edit_steps::{RunError, RunResult, print_error};
+use edit_words::command;
 use std::alloc::{AllocError, Global};
 use std::io;
 
@@ -49,9 +50,25 @@ fn action_of(matches: &ArgMatches<'_>) -> Action {
     }
 }
 
+/// The option that a script gives itself and that is given to it too, where there is one.
+fn repeated_option(matches: &ArgMatches<'_>) -> Option<&'static str> {
+    let own = [
+        ("config", "--config <FILE>"),
+        ("default-config", "--default-config <FILE>"),
+        ("lock-file", "--lock-file <FILE>"),
+    ];
+    let given = own.iter().find(|(id, _)| matches.get_str(id).is_some());
+    given.map(|(_, option)| *option)
+}
+
 /// A flag as the script passes it to cargo; empty where it is not given.
 fn flag_text(is_given: bool, flag: &'static str) -> &'static str {
     if is_given { flag } else { "" }
+}
+
+/// The value of `--message-format`.
+fn format_text<'a>(matches: &ArgMatches<'a>) -> &'a str {
+    matches.get_str("message-format").unwrap_or("")
 }
 
 /// Whether the script gives the time, from which an age that is given or that the policy sets counts back.
@@ -67,6 +84,11 @@ fn asks(matches: &ArgMatches<'_>) -> bool {
     interactive && matches.get_str("rows").is_none()
 }
 
+/// Whether requirements are raised only to versions that the lock file has.
+fn reads_lock(subcommand: &str, matches: &ArgMatches<'_>) -> bool {
+    subcommand == "upgrade" && matches.get_flag("to-lockfile")
+}
+
 /// The value of `--color` as cargo takes it; empty where it is not given, or has another value.
 fn color_text(color: Option<&str>) -> &'static str {
     match color {
@@ -75,6 +97,11 @@ fn color_text(color: Option<&str>) -> &'static str {
         Some("never") => "never",
         _ => "",
     }
+}
+
+/// Whether less than usual is printed: `-q` is given oftener than `-v`.
+fn is_quiet(matches: &ArgMatches<'_>) -> bool {
+    matches.get_count("quiet") > matches.get_count("verbose")
 }
 
 /// Appends the assignments of a subcommand's parsed arguments.
@@ -104,8 +131,12 @@ fn push_options(
     push_assignment(text, "dry", flag_text(dry, "yes"))?;
     let clock = needs_clock(subcommand, matches);
     push_assignment(text, "clock", flag_text(clock, "yes"))?;
+    let to_lockfile = reads_lock(subcommand, matches);
+    push_assignment(text, "to_lockfile", flag_text(to_lockfile, "yes"))?;
     push_assignment(text, "color", color_text(matches.get_str("color")))?;
-    push_assignment(text, "ask", flag_text(asks(matches), "yes"))
+    push_assignment(text, "ask", flag_text(asks(matches), "yes"))?;
+    push_assignment(text, "quiet", flag_text(is_quiet(matches), "yes"))?;
+    push_assignment(text, "format", format_text(matches))
 }
 
 /// The arguments of a subcommand, with metadata in place of those that the script adds.
@@ -127,6 +158,39 @@ fn with_metadata<'a>(
     Ok(all)
 }
 
+/// The arguments of a subcommand, parsed as those of the command of cargo, whose name stands in usage.
+fn parse_for_cargo<'a>(alloc: Global, args: &'a [&'a str]) -> Result<ArgMatches<'a>, clap::Error> {
+    let command = command(alloc)?.bin_name("cargo")?;
+    command.try_get_matches_from(args)
+}
+
+/// Prints the error of wrong arguments, without the option that the script adds, and returns the exit
+/// status.
+fn print_usage_error<E: io::Write>(
+    alloc: Global,
+    error: &clap::Error,
+    err: &mut E,
+) -> CargoResult<u8> {
+    if error.kind() == ErrorKind::OutOfMemory {
+        return Err(Error::Memory);
+    }
+    let text = format!(in alloc; "{error}")?;
+    let text = text.replace(alloc, "[OPTIONS] --metadata-json <FILE>", "[OPTIONS]")?;
+    let text = text.replace(alloc, "--metadata-json <FILE>", "[OPTIONS]")?;
+    let _ = err.write_all(text.as_bytes());
+    Ok(2)
+}
+
+/// Prints that an option needs one of those that name files, and returns the exit status.
+fn print_repeated<E: io::Write>(option: &str, err: &mut E) -> u8 {
+    let _ = writeln!(
+        err,
+        "error: the argument '{option}' needs '--metadata-json <FILE>', '--index-file <FILE>' or \
+         '--index-dir <DIR>'\n\nFor more information, try '--help'."
+    );
+    2
+}
+
 /// Writes the assignments for the arguments of a subcommand, and returns the exit status.
 fn write_options<O: io::Write, E: io::Write>(
     alloc: Global,
@@ -138,9 +202,14 @@ fn write_options<O: io::Write, E: io::Write>(
     let arguments = with_metadata(alloc, subcommand, arguments)?;
     let args = filled_args(alloc, subcommand, &arguments)?;
     let mut text = Vec::new(alloc);
-    match parse_args(alloc, &args) {
+    match parse_for_cargo(alloc, &args) {
         Ok(matches) => {
             if let Some((name, matches)) = matches.subcommand() {
+                if matches!(action_of(matches), Action::Run)
+                    && let Some(option) = repeated_option(matches)
+                {
+                    return Ok(print_repeated(option, err));
+                }
                 push_options(&mut text, name, matches)?;
             }
         }
@@ -149,7 +218,7 @@ fn write_options<O: io::Write, E: io::Write>(
             ErrorKind::DisplayVersion => {
                 push_assignment(&mut text, "action", Action::Program.text())?;
             }
-            _ => return Ok(print_parse_error(&error, out, err)?),
+            _ => return Ok(print_usage_error(alloc, &error, err)?),
         },
     }
     match out.write_all(&text) {

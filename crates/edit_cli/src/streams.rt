@@ -22,6 +22,13 @@ pub(crate) struct ReportOptions<'a> {
     pub(crate) color: Option<&'a str>,
 }
 
+impl ReportOptions<'_> {
+    /// Whether the report is written as JSON messages.
+    pub(crate) fn is_json(self) -> bool {
+        self.format == Some("json")
+    }
+}
+
 /// The size in bytes of the line buffer: a longer line is written in parts.
 const LINE: usize = 8192;
 
@@ -62,8 +69,8 @@ fn report_stream<W: Write + Drop>(
     }
 }
 
-/// Standard output of a report: JSON messages are neither escaped nor colored, and other formats than tables
-/// are not colored.
+/// Standard output of a report: JSON messages are neither escaped nor colored, and other formats than
+/// tables are not colored.
 pub(crate) fn report_output(
     rt: &HostRuntime,
     options: ReportOptions<'_>,

@@ -29,6 +29,20 @@ pub(super) fn write_configurations(
     Config::read(alloc, first.as_str(), &text)
 }
 
+/// The first of these files, as `write_configurations` wrote it.
+pub(super) fn written_configuration(
+    rt: &HostRuntime,
+    files: &mut HostStore<HostRuntime>,
+    room: &str,
+) -> CargoResult<Config> {
+    let first = join(rt.alloc(), room, "first.toml")?;
+    let text = match files.read(rt.alloc(), first.as_str())? {
+        Some(text) => text,
+        None => Vec::new(rt.alloc()),
+    };
+    Config::read(rt.alloc(), first.as_str(), &text)
+}
+
 /// The configurations of the current folder, and then those of each member of the workspace in the metadata
 /// file, without duplicates. Files that cannot be read are skipped: the upgrade reports them.
 pub(super) fn all_configs(

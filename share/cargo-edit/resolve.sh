@@ -1,0 +1,53 @@
+# shellcheck shell=sh disable=SC2154
+# Sourced by the scripts in bin/: resolves the workspace after its manifests were written. It uses the
+# variables `tool` (the program), `cargo`, `room` (the folder of this run) and `manifest` of these scripts,
+# their functions `workspace`, `shown` and `die`, and process.sh.
+
+# Output of cargo, without colors.
+escape=$(printf '\033')
+without_colors() { sed "s/$escape\[[0-9;]*m//g" "$1"; } # FILE
+# The progress that is shown: a step, its subject, and the last line of cargo.
+step=Updating subject=Cargo.lock
+last_said() {
+    set -- "$(without_colors "$room/said" | tail -n 1 | sed 's/^ *//' | shown)"
+    printf '%s\n' "$subject${1:+: $1}"
+}
+
+# Runs a command that calls cargo. The standard error of cargo goes to ROOM/said, and is printed at the end;
+# on a terminal its last line is shown as progress.
+attempt() { # COMMAND ARGUMENT..
+    : > "$room/said"
+    say_later "$step" last_said
+    "$@" 2> "$room/said"
+    set -- $?
+    unsay
+    if [ -t 2 ]; then without_colors "$room/said" | shown >&2; else cat "$room/said" >&2; fi
+    return "$1"
+}
+
+# Whether Cargo.lock fits the manifests. This writes and fetches nothing.
+fits() {
+    run_process "$cargo" update --workspace --locked --offline ${manifest:+--manifest-path "$manifest"} \
+        > "$room/said.fit" 2>&1
+}
+
+# Resolves the workspace, which makes or updates Cargo.lock. (`cargo metadata` can fail after it has written
+# Cargo.lock, for example if a package has two names.)
+resolve() {
+    step=Resolving subject='the workspace'
+    attempt workspace --all-features || { fits && echo 'note: Cargo.lock fits the manifests all the same' >&2; }
+    set -- $?
+    step=Updating subject=Cargo.lock
+    return "$1"
+}
+
+# Ends the run if the manifests are written and Cargo.lock does not fit them. The reason is the first error
+# in a file, which has the output of cargo or of a step of the program.
+unfit() { # FILE
+    reason=$(without_colors "$1" | sed -n 's/^[Ee]rror: //p' | head -n 1)
+    place=$(sed -n '/^Error: /,$p' "$1" | grep -E '^  (at|cause:) ')
+    command=$("$tool" shell-words cargo update --workspace ${manifest:+--manifest-path "$manifest"})
+    die "the manifests are written, Cargo.lock is not: ${reason:-cargo failed}${place:+
+$place}
+  help: change what cargo names, or take the manifests back, and run \`$command\`"
+}
