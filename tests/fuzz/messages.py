@@ -36,8 +36,8 @@ def fits(value, form):
     """Whether a value has a form."""
     if isinstance(form, tuple):
         return value is None and None in form or isinstance(value, str) and value in form
-    return {NUMBER: value is None or isinstance(value, int), TEXT: isinstance(value, str), MAYBE: value is None or isinstance(value, str),
-            TRUTH: isinstance(value, bool),
+    return {NUMBER: value is None or isinstance(value, int), TEXT: isinstance(value, str),
+            MAYBE: value is None or isinstance(value, str), TRUTH: isinstance(value, bool),
             TEXTS: is_texts(value), CALLS: isinstance(value, list) and all(map(is_texts, value)),
             PLACE: isinstance(value, list) and all(isinstance(one, str | int) for one in value)}[form]
 
@@ -54,6 +54,18 @@ def read(out):
     if out and not out.endswith(b"\n"):
         raise ValueError("no line end at the end")
     return messages
+
+
+def error_faults(messages, has_error):
+    """What is wrong with the messages of a run that failed: an error is the last one, and no other one is an error."""
+    reasons = [message.get("reason") for message in messages]
+    if "error" in reasons[:-1] or has_error != (reasons[-1:] == ["error"]):
+        yield f"errors are not reported as one message at the end: {messages}"
+    for message in messages:
+        form = MEMBERS["error"] if message.get("reason") == "error" else {}
+        wrong = [name for name in form if name not in message or not fits(message[name], form[name])]
+        if wrong:
+            yield f"members {wrong} of an error: {message}"
 
 
 def faults(command, messages):

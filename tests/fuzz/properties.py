@@ -153,4 +153,6 @@ def read_messages(room, args, real, command):
         return [], [*faults, f"messages that are no JSON: {error} {run.out!r}"]
     if run.status == 0:
         faults += messages.faults(command, read)
+    elif run.status == 1:
+        faults += messages.error_faults(read, re.search(rb"^Error: ", run.err, re.M) is not None)
     return read, faults

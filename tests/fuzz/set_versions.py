@@ -42,6 +42,14 @@ def by_oracle(room, run, wanted):
                 yield f"{name}: the oracle wants {want!r} at {place}, not {new.get(place)!r}: {shown(run)}"
 
 
+def requirement_counts(read, count):
+    """What is wrong where other messages report changed requirements than so many, as texts or by their parts."""
+    texts = sum(one["reason"] == "set-version-change" and one["action"] == "Updating" for one in read)
+    parts = sum(one["reason"] == "set-version-requirement" for one in read)
+    if (texts, parts) != (count, count):
+        yield f"{texts} and {parts} messages of requirements, where {count} change"
+
+
 def faults(room, case, choose):
     """All that is wrong with new versions."""
     real = room.run(case.args)
@@ -56,6 +64,5 @@ def faults(room, case, choose):
     if choose(0.3):
         read, wrong = read_messages(room, case.args, real, "set-version")
         yield from wrong
-        updated = sum(one["action"] == "Updating" for one in read if not wrong)
-        if not wrong and real.status == 0 and count is not None and updated != count:
-            yield f"{updated} messages of requirements, where {count} change"
+        if not wrong and real.status == 0 and count is not None:
+            yield from requirement_counts(read, count)
