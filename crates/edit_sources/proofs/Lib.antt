@@ -18,3 +18,5 @@ pub mod SourceLemmas
 pub mod SplitLineLemmas
 pub mod WithheldLemmas
 pub mod FileIndexLemmas
+pub mod FollowLemmas
+pub mod StartLemmas

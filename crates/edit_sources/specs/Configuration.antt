@@ -1,7 +1,7 @@
 -- The registries and sources of a configuration file (Cargo reference, "Configuration", registries and
 -- source).
-use Rattle.std.specs.Prelude.{◌≡◌, ℕ, List, [], ◌∷◌, Option, Some, None, codes, option_map, option_and_then}
-use Rattle.std.specs.Str.{IsUtf8}
+use Rattle.std.specs.Prelude.{◌≡◌, ℕ, List, [], ◌∷◌, Bool, not, filter, Option, Some, None, codes, option_map, option_and_then}
+use Rattle.std.specs.Str.{IsUtf8, bytes_eq}
 use Rattle.toml.specs.Data.{Data, Members, no_members, member, get_member, as_str, as_table}
 use Rattle.toml.specs.Parse.{parse_document}
 
@@ -11,8 +11,8 @@ pub record Source : Type 0 where
   pub registry : Option (List ℕ)
   pub replace_with : Option (List ℕ)
 
--- the model of a configuration file: the keys of `registries` with their indexes, and the entries of
--- `source`, in the order of the keys in the table that `toml` reads
+-- the model of a configuration file: the alternate registries of `registries` with their indexes, and the
+-- entries of `source`, in the order of the keys in the table that `toml` reads
 pub record Configuration : Type 0 where
   pub registries : List (List ℕ × Option (List ℕ))
   pub sources : List (List ℕ × Source)
@@ -55,9 +55,16 @@ abbrev pub table_of : {A : Type 0} → (Data → Option A) → Option Data → O
 table_of read None = Some []
 table_of read (Some value) = option_and_then (entries_of read) (as_table value)
 
--- the entries of `registries`, each key with its index (Cargo reference, "Configuration", registries)
+-- whether an entry of `registries` is an alternate registry: `crates-io` is not, since nothing but `source`
+-- changes its address (Cargo reference, "Source Replacement")
+abbrev pub is_alternate : List ℕ × Option (List ℕ) → Bool
+is_alternate entry = not (bytes_eq entry.0 (codes "crates-io"))
+
+-- the alternate registries of `registries`, each key with its index (Cargo reference, "Configuration",
+-- registries)
 abbrev pub registries_in : Members → Option (List (List ℕ × Option (List ℕ)))
-registries_in document = table_of index_of (get_member (codes "registries") document)
+registries_in document =
+    option_map (filter is_alternate) (table_of index_of (get_member (codes "registries") document))
 
 -- the entries of `source`, each key with its source (Cargo reference, "Configuration", source)
 abbrev pub sources_in : Members → Option (List (List ℕ × Source))

@@ -1,7 +1,7 @@
 -- The configuration files that cargo reads, the first one first (Cargo reference, "Configuration",
 -- Hierarchical structure).
-use Rattle.std.specs.Prelude.{◌≡◌, ◌⊎◌, ℕ, List, [], ◌∷◌, ◌++◌, map, Option, Some, None, option_map, Bool, true, codes, ⊤, string_bytes}
-use Rattle.std.specs.List.{filter_map, AllZip}
+use Rattle.std.specs.Prelude.{◌≡◌, ℕ, List, [], ◌∷◌, ◌++◌, map, Option, Bool, true, cond, codes, is_some, string_bytes}
+use Rattle.std.specs.List.{AllZip}
 use Rattle.std.specs.Option.{option_to_list}
 use Rattle.edit_base.specs.Paths.{joined, IsFolderOf}
 use Rattle.edit_store.specs.Climbs.{Climbs}
@@ -12,7 +12,8 @@ use Rattle.edit_store.specs.Store.{Files, IsRaisedCount}
 use Rattle.edit_sources.specs.Configuration.{HasConfiguration, IsMalformedConfig}
 use Rattle.url.specs.Parts.{Parts}
 use Rattle.edit_sources.specs.Configured.{configuration, paths_of, IsConfigErrorAt, HasAddress, HasNoUrl}
-use Rattle.edit_sources.specs.Sources.{or_else}
+use Rattle.edit_sources.specs.Following.{Follows, StopsFollowing}
+use Rattle.edit_sources.specs.Includes.{Include}
 use Rattle.edit_sources.specs.declared.config.Config.{Config}
 
 -- the folders above a file, from its own up to the root (own)
@@ -30,30 +31,35 @@ pub record IsSearched (manifest : List ℕ) (home : Option (List ℕ)) (places :
   pub upwards : IsUpwards manifest folders
   pub all : places ≡ map (λ folder. joined folder (codes ".cargo")) folders ++ option_to_list home
 
--- the file at a path, if it exists: its path and its bytes (own)
-abbrev pub existing_file : Files → List ℕ → Option (List ℕ × List ℕ)
-existing_file files path = option_map (λ bytes. (path, bytes)) (files path)
-
--- the configuration file in a folder: `config`, else `config.toml` (Cargo reference, "Configuration",
--- Hierarchical structure)
-abbrev pub file_in : Files → List ℕ → Option (List ℕ × List ℕ)
-file_in files place = or_else (existing_file files (joined place (codes "config")))
-    (existing_file files (joined place (codes "config.toml")))
-
--- the configuration files in these folders, in their order (own)
-abbrev pub files_in : Files → List (List ℕ) → List (List ℕ × List ℕ)
-files_in files places = filter_map (file_in files) places
+-- the path of the configuration file in a folder: `config` if that file exists, else `config.toml` (Cargo
+-- reference, "Configuration", Hierarchical structure)
+abbrev pub start_in : Files → List ℕ → List ℕ
+start_in files place =
+    cond (is_some (files (joined place (codes "config")))) (joined place (codes "config"))
+    (joined place (codes "config.toml"))
 
 -- the configuration is that of the file (own)
 pub record IsReadFrom (file : List ℕ × List ℕ) (config : Config) : Type 0 where
   pub path : string_bytes config.path ≡ file.0
   pub said : HasConfiguration file.1 (configuration config)
 
--- the configuration is that of the file if it exists, and there is none otherwise (own)
-abbrev pub IsReadOf : Option (List ℕ × List ℕ) → Option Config → Type 0
-IsReadOf None None = ⊤
-IsReadOf (Some file) (Some config) = IsReadFrom file config
-IsReadOf _ _ = ⊥
+-- from the file at `start`, these configurations were read, and these files are to be read (own)
+pub record IsFollowing (files : Files) (start : List ℕ) (pending : List Include) (configs : List Config)
+    : Type 0 where
+  pub found : List (List ℕ × List ℕ)
+  pub follows : Follows files start pending found
+  pub read : AllZip IsReadFrom found configs
+
+-- the configurations of the file in a folder and of all that it includes, none where no file exists (own)
+abbrev pub AreReadIn : Files → List ℕ → List Config → Type 0
+AreReadIn files place configs = IsFollowing files (start_in files place) [] configs
+
+-- the configuration files in these folders, in their order, each before what it includes (own)
+pub data AreFilesIn (files : Files) : List (List ℕ) → List (List ℕ × List ℕ) → Type 0 where
+  none : AreFilesIn files [] []
+  more : (place : List ℕ) (places : List (List ℕ)) (own later : List (List ℕ × List ℕ))
+      → Follows files (start_in files place) [] own → AreFilesIn files places later
+      → AreFilesIn files (place ∷ places) (own ++ later)
 
 -- the error of a malformed file (own)
 pub record IsBadConfig (file : List ℕ × List ℕ) (e : Error) : Type 0 where
@@ -65,25 +71,24 @@ pub record HasFailed (before now : ℕ) (e : Error) : Type 0 where
   pub is : e ≡ Device Read
   pub counted : IsRaisedCount before now
 
--- the path of the configuration file in a folder, by one of its two names (Cargo reference, "Configuration",
--- Hierarchical structure)
-abbrev pub IsConfigPath : List ℕ → List ℕ → Type 0
-IsConfigPath place path = (path ≡ joined place (codes "config")) ⊎ (path ≡ joined place (codes "config.toml"))
+-- the error of the file at `start` or of a file that it includes (own)
+pub record FollowFails (tells : Bool) (files : Files) (start : List ℕ) (e : Error) : Type 0 where
+  pub path : List ℕ
+  pub named : IsConfigErrorAt path e
+  pub stops : tells ≡ true → StopsFollowing files start path
 
--- the error of a folder: its configuration file, at such a path, is malformed (own)
-pub record FileFails (tells : Bool) (IsAt : List ℕ → Type 0) (counts : Option (List ℕ × List ℕ)) (e : Error)
-    : Type 0 where
-  pub file : List ℕ × List ℕ
-  pub at : IsAt file.0
-  pub stands : tells ≡ true → counts ≡ Some file
-  pub unread : IsBadConfig file e
+-- the error of a folder: that of its configuration file (own)
+abbrev pub FolderFails : Bool → Files → List ℕ → Error → Type 0
+FolderFails tells files place e = FollowFails tells files (start_in files place) e
 
--- the configurations of a manifest: that of each file that is found, in order (own)
+-- the configurations of a manifest: that of each file that is found or included, in order (own)
 pub record AreConfigs (files : Files) (manifest : List ℕ) (home : Option (List ℕ))
     (configs : List Config) : Type 0 where
   pub places : List (List ℕ)
   pub searched : IsSearched manifest home places
-  pub each : AllZip IsReadFrom (files_in files places) configs
+  pub found : List (List ℕ × List ℕ)
+  pub stand : AreFilesIn files places found
+  pub each : AllZip IsReadFrom found configs
 
 -- the paths of the files of a manifest's configurations, in their order (own)
 pub record AreConfigPaths (files : Files) (manifest : List ℕ) (home : Option (List ℕ))
@@ -92,13 +97,13 @@ pub record AreConfigPaths (files : Files) (manifest : List ℕ) (home : Option (
   pub read : AreConfigs files manifest home configs
   pub all : paths ≡ paths_of configs
 
--- the error of these folders: the configuration file in one of them is malformed (own)
+-- the error of these folders: that of the configuration file in one of them (own)
 pub record PlaceFails (tells : Bool) (files : Files) (places : List (List ℕ)) (e : Error) : Type 0 where
   pub place : List ℕ
   pub before : List (List ℕ)
   pub after : List (List ℕ)
   pub within : places ≡ before ++ place ∷ after
-  pub fails : FileFails tells (IsConfigPath place) (file_in files place) e
+  pub fails : FolderFails tells files place e
 
 -- the error of the configurations of a manifest (own)
 pub record ConfigsFail (tells : Bool) (files : Files) (manifest : List ℕ) (home : Option (List ℕ))
@@ -107,17 +112,19 @@ pub record ConfigsFail (tells : Bool) (files : Files) (manifest : List ℕ) (hom
   pub searched : IsSearched manifest home places
   pub fails : PlaceFails tells files places e
 
--- the first malformed file in these folders: those before it are configurations (own)
+-- the first error of these folders: those before it have configurations (own)
 pub record IsFirstMalformed (files : Files) (places : List (List ℕ)) (e : Error) : Type 0 where
   pub place : List ℕ
   pub before : List (List ℕ)
   pub after : List (List ℕ)
   pub within : places ≡ before ++ place ∷ after
   pub configs : List Config
-  pub read : AllZip IsReadFrom (files_in files before) configs
-  pub fails : FileFails true (IsConfigPath place) (file_in files place) e
+  pub found : List (List ℕ × List ℕ)
+  pub stand : AreFilesIn files before found
+  pub read : AllZip IsReadFrom found configs
+  pub fails : FolderFails true files place e
 
--- the first malformed file of a manifest's configurations (own)
+-- the first error of a manifest's configurations (own)
 pub record StopsAtConfig (files : Files) (manifest : List ℕ) (home : Option (List ℕ)) (e : Error)
     : Type 0 where
   pub places : List (List ℕ)

@@ -8,9 +8,11 @@ use Rattle.url.specs.Parser.{parse_url}
 use Rattle.url.specs.Parts.{Parts}
 use Rattle.url.specs.declared.error.ParseError.{ParseError}
 use Rattle.edit_sources.specs.Configuration as said
+use Rattle.edit_sources.specs.Includes as spec
 use Rattle.edit_sources.specs.SourceReplacement as chain
 use Rattle.edit_sources.specs.declared.config.Config.{Config}
 use Rattle.edit_sources.specs.declared.config.ConfigSource.{ConfigSource}
+use Rattle.edit_sources.specs.declared.config.includes.Include.{Include}
 
 -- the model of a source (own)
 abbrev pub source_view : ConfigSource → said.Source
@@ -40,6 +42,10 @@ path_and_entries c = (string_bytes c.path, configuration c)
 -- the paths of the files of these configurations (own)
 abbrev pub paths_of : List Config → List (List ℕ)
 paths_of configs = map (λ c. string_bytes c.path) configs
+
+-- the model of an include (own)
+abbrev pub include_view : Include → spec.Include
+include_view i = record { path = string_bytes i.path; is_optional = i.optional }
 
 -- the error is `Config` with this path (own)
 abbrev pub IsConfigErrorAt : List ℕ → Error → Type 0

@@ -15,3 +15,6 @@ pub mod Folders
 pub mod LineFields
 pub mod Published
 pub mod Withheld
+pub mod Following
+pub mod Includes
+pub mod FollowingSteps

@@ -1,10 +1,12 @@
 //! Reads the registries and sources of cargo's configuration files (Cargo reference, "Configuration").
-ghost use Rattle.std.specs.Prelude.{◌≡◌, ◌⊎◌, IfOk, IfErr, IfSome, map, option_map, string_bytes};
+ghost use Rattle.std.specs.Prelude.{◌≡◌, ◌⊎◌, ◌++◌, [], ◌∷◌, IfOk, IfErr, IfSome, OnOk, filter, map, option_map, string_bytes};
+ghost use Rattle.std.specs.Str.{IsUtf8};
 ghost use Rattle.edit_base.specs.Errors.{IsMemory};
 ghost use Rattle.toml.specs.Data.{get_member};
+ghost use Rattle.toml.specs.Parse.{parse_document};
 ghost use Rattle.toml.specs.View.{view, table_view};
 ghost use Rattle.edit_sources.specs.Configuration as said;
-ghost use Rattle.edit_sources.specs.Configuration.{Configuration, HasConfiguration, IsMalformedConfig, configuration_of, entries_of, table_of};
+ghost use Rattle.edit_sources.specs.Configuration.{Configuration, HasConfiguration, IsMalformedConfig, configuration_of, entries_of, is_alternate};
 ghost use Rattle.edit_sources.specs.Configured.{IsConfigErrorAt, configuration, registry_entry, source_entry, source_view};
 
 use crate::index_lines::clone_optional_str;
@@ -15,6 +17,8 @@ use toml::{Table, Value};
 mod cache;
 mod copies;
 mod files;
+mod following;
+mod includes;
 
 pub use cache::{ConfigCache, read_configs};
 
@@ -23,7 +27,8 @@ pub use cache::{ConfigCache, read_configs};
 pub struct Config {
     /// The path of the file.
     pub path: String,
-    /// The keys of the table `registries`, each with its `index`.
+    /// The keys of the table `registries`, each with its `index`. `crates-io` is left out: only `source`
+    /// changes its address.
     pub registries: Vec<(String, Option<String>)>,
     /// The keys of the table `source`.
     pub sources: Vec<(String, ConfigSource)>,
@@ -83,21 +88,37 @@ fn source_of(alloc: Global, value: &Value) -> Result<Option<ConfigSource>, Alloc
     }))
 }
 
-/// The entries of `registries`, each key with its index; `None` where one of them is malformed.
+/// Appends an entry of `registries`, unless it is that of the default registry.
+fn push_registry(
+    alloc: Global,
+    registries: &mut Vec<(String, Option<String>)>,
+    key: &str,
+    index: Option<&str>,
+) -> Result<(), AllocError>
+    ensures { OnOk result (map registry_entry registries.new.items ≡ map registry_entry registries.old.items
+        ++ filter is_alternate ((key.now, option_map (λ t. t.now) index.entry) ∷ [])) }
+{
+    if key != "crates-io" {
+        let index = clone_optional_str(alloc, index)?;
+        registries.push((String::from_str(alloc, key)?, index))?;
+    }
+    Ok(())
+}
+
+/// The alternate registries of `registries`, each key with its index; `None` where an entry is malformed.
 fn registry_entries(
     alloc: Global,
     table: &Table,
 ) -> Result<Option<Vec<(String, Option<String>)>>, AllocError>
     ensures { IfOk result (λ found. option_map (λ v. map registry_entry v.items) found
-        ≡ entries_of said.index_of (table_view table.now)) }
+        ≡ option_map (filter is_alternate) (entries_of said.index_of (table_view table.now))) }
 {
     let mut registries = Vec::new(alloc);
     for (key, value) in table {
         let Some(index) = index_of(value) else {
             return Ok(None);
         };
-        let index = clone_optional_str(alloc, index)?;
-        registries.push((String::from_str(alloc, key.as_str())?, index))?;
+        push_registry(alloc, &mut registries, key.as_str(), index)?;
     }
     Ok(Some(registries))
 }
@@ -130,7 +151,7 @@ fn config_file_error(alloc: Global, path: &str) -> Error
     }
 }
 
-/// The entries of `registries`, none where it is absent; `None` where it is malformed.
+/// The alternate registries of `registries`, none where it is absent; `None` where it is malformed.
 fn registries_in(
     alloc: Global,
     table: &Table,
@@ -184,6 +205,40 @@ fn configuration_in(alloc: Global, path: &str, table: &Table) -> Result<Option<C
     }))
 }
 
+/// Parses the document of a configuration file; `path` is its path.
+fn document_of(alloc: Global, path: &str, bytes: &[u8]) -> CargoResult<Table>
+    ensures utf8 { IfOk result (λ t. IsUtf8 bytes.now) }
+    ensures toml { IfOk result (λ t. parse_document bytes.now ≡ Some (table_view t)) }
+    ensures error { IfErr result (λ e. IsMemory e
+        ⊎ (IsConfigErrorAt path.now e × IsMalformedConfig bytes.now)) }
+{
+    let Ok(text) = std::str::from_utf8(bytes) else {
+        return Err(config_file_error(alloc, path));
+    };
+    match toml::table_from_str(alloc, text) {
+        Ok(table) => Ok(table),
+        Err(error) => {
+            if error.is_memory() {
+                return Err(Error::Memory);
+            }
+            Err(config_file_error(alloc, path))
+        }
+    }
+}
+
+/// The configuration of the document of the file at a path.
+fn config_of(alloc: Global, path: &str, table: &Table) -> CargoResult<Config>
+    ensures named { IfOk result (λ c. string_bytes c.path ≡ path.now) }
+    ensures content { IfOk result (λ c. configuration_of (table_view table.now) ≡ Some (configuration c)) }
+    ensures error { IfErr result (λ e. IsMemory e
+        ⊎ (IsConfigErrorAt path.now e × (configuration_of (table_view table.now) ≡ None))) }
+{
+    match configuration_in(alloc, path, table)? {
+        Some(config) => Ok(config),
+        None => Err(config_file_error(alloc, path)),
+    }
+}
+
 impl Config {
     /// Parses a configuration file; `path` is its path. The keys are in the order of their bytes.
     ///
@@ -200,21 +255,7 @@ impl Config {
         ensures error { IfErr result (λ e. IsMemory e
             ⊎ (IsConfigErrorAt path.now e × IsMalformedConfig bytes.now)) }
     {
-        let Ok(text) = std::str::from_utf8(bytes) else {
-            return Err(config_file_error(alloc, path));
-        };
-        let table = match toml::table_from_str(alloc, text) {
-            Ok(table) => table,
-            Err(error) => {
-                if error.is_memory() {
-                    return Err(Error::Memory);
-                }
-                return Err(config_file_error(alloc, path));
-            }
-        };
-        match configuration_in(alloc, path, &table)? {
-            Some(config) => Ok(config),
-            None => Err(config_file_error(alloc, path)),
-        }
+        let table = document_of(alloc, path, bytes)?;
+        config_of(alloc, path, &table)
     }
 }

@@ -105,7 +105,7 @@ config_error old mid new home first last path e reads (inr (inr (inl unread))) =
 config_error old mid new home first last path e reads (inr (inr (inr (inl unread)))) =
     let (there, is, why) = unread_there last e unread in inr (unread_error there e why)
 config_error old mid new home first last path e reads (inr (inr (inr (inr wrong)))) =
-    inr (unread_error wrong.fails.fails.file e wrong.fails.fails.unread)
+    inr (wrong.fails.fails.path, wrong.fails.fails.named)
 
 -- ---- the manifests to plan for
 

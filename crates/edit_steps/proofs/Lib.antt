@@ -10,3 +10,4 @@ pub mod SharedLemmas
 pub mod TargetLemmas
 pub mod ErrorLemmas
 pub mod FirstLemmas
+pub mod StandingFiles

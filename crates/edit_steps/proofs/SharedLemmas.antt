@@ -1,56 +1,26 @@
 -- Lists of configurations that inputs share.
-use Rattle.std.proofs.Common.{◌≡◌, ◌∙◌, ◌+◌, ◌<◌, ◌++◌, ◌∷◌, [], ℕ, List, Option, Some, None, zero, suc, ap, arith, length, map, refl, subst, sym, take}
-use Rattle.std.specs.Prelude.{All, codes, option_map, slice_get, string_bytes}
+use Rattle.std.proofs.Common.{◌≡◌, ◌∙◌, ◌+◌, ◌<◌, ◌++◌, ◌∷◌, [], ℕ, List, Option, Some, zero, suc, ap, arith, length, map, refl, subst, sym, take}
+use Rattle.std.specs.Prelude.{All, slice_get, string_bytes}
 use Rattle.std.specs.List.{AllZip, cons_option, filter_map}
 use Rattle.std.specs.Option.{option_to_list}
 use Rattle.std.specs.Global.{Vec}
 use Rattle.std.proofs.lemmas.List.{length-append, length-map, length-take-le, map-append}
-use Rattle.std.proofs.lemmas.List.Elements.{All-cons, All-head, All-nil, All-push, All-tail, filter_map-append}
+use Rattle.std.proofs.lemmas.List.Elements.{All-head, All-push, All-tail, filter_map-append}
 use Rattle.std.proofs.lemmas.Option.{get_or_from_slice_get, slice_get_within}
 use Rattle.std.proofs.lemmas.Slice.Zip.{AllZip-long}
-use Rattle.edit_base.specs.Paths.{joined}
-use Rattle.edit_sources.specs.ConfigurationFiles.{AreConfigPaths, AreConfigs, IsReadFrom, file_in, files_in, existing_file}
+use Rattle.edit_sources.specs.ConfigurationFiles.{AreConfigPaths, AreConfigs, IsReadFrom}
 use Rattle.edit_sources.specs.Configured.{paths_of}
-use Rattle.edit_sources.specs.Sources.{or_else}
 use Rattle.edit_sources.specs.declared.config.Config.{Config}
 use Rattle.edit_store.specs.Store.{Files}
 use Rattle.edit_steps.specs.Named.{AreGathered, Pair, PathAndBytes, list_paths, path_in}
 use Rattle.edit_steps.specs.Shared.{AddsList, HasLists, IsListed, IsOfSome, SharesList}
+use Rattle.edit_steps.proofs.StandingFiles.{Stands, all_stand}
 use Rattle.edit_steps.specs.declared.upgrade_read.shared.SharedConfigs.{SharedConfigs}
 
 -- ---- what a path says of a configuration
 
--- a file with its bytes, as it stands
-abbrev Stands : Files → PathAndBytes → Type 0
-Stands files file = files file.0 ≡ Some file.1
-
 one_value : {A : Type 0} (x y : A) → Some x ≡ Some y → x ≡ y
 one_value x y h = cc h
-
-stands_by : (files : Files) (path : List ℕ) (f : PathAndBytes) (found : Option (List ℕ)) → files path ≡ found
-    → option_map (λ (bytes : List ℕ). (path, bytes)) found ≡ Some f → Stands files f
-stands_by files path f None is h = cc h
-stands_by files path f (Some bytes) is h = subst (Stands files) (one_value (path, bytes) f h) is
-
-stands_in : (files : Files) (f : PathAndBytes) (a b : Option PathAndBytes) → (a ≡ Some f → Stands files f)
-    → (b ≡ Some f → Stands files f) → or_else a b ≡ Some f → Stands files f
-stands_in files f None b one two h = two h
-stands_in files f (Some x) b one two h = one h
-
-all_stand : (files : Files) (places : List (List ℕ)) → All (Stands files) (files_in files places)
-all_stand files [] = All-nil (Stands files)
-all_stand files (place ∷ places) = more (file_in files place) refl (all_stand files places)
-  where
-    at : (path : List ℕ) (f : PathAndBytes) → existing_file files path ≡ Some f → Stands files f
-    at path f h = stands_by files path f (files path) refl h
-
-    more : (o : Option PathAndBytes) → file_in files place ≡ o → All (Stands files) (files_in files places)
-        → All (Stands files) (cons_option o (files_in files places))
-    more None is rest = rest
-    more (Some f) is rest = All-cons (Stands files) f (files_in files places)
-        (stands_in files f (existing_file files (joined place (codes "config")))
-        (existing_file files (joined place (codes "config.toml"))) (at (joined place (codes "config")) f)
-        (at (joined place (codes "config.toml")) f) is) rest
 
 -- files that stand are the same where their paths are
 same_files : (files : Files) (xs ys : List PathAndBytes) → All (Stands files) xs → All (Stands files) ys
@@ -84,11 +54,12 @@ configs_same : (files : Files) (home : Option (List ℕ)) (one other : List ℕ)
 configs_same files home one other a b left right same = record {
   places = right.places;
   searched = right.searched;
+  found = right.found;
+  stand = right.stand;
   each = subst (λ (fs : List PathAndBytes). AllZip IsReadFrom fs a)
-      (same_files files (files_in files left.places) (files_in files right.places)
-      (all_stand files left.places) (all_stand files right.places)
-      (sym (read_paths (files_in files left.places) a left.each) ∙ same
-      ∙ read_paths (files_in files right.places) b right.each)) left.each;
+      (same_files files left.found right.found (all_stand files left.places left.found left.stand)
+      (all_stand files right.places right.found right.stand)
+      (sym (read_paths left.found a left.each) ∙ same ∙ read_paths right.found b right.each)) left.each;
 }
 
 -- two joined lists are the same only part by part, where the first parts are as long

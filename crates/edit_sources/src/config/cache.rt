@@ -1,24 +1,24 @@
 //! The configurations of manifests; each file is read once for all of them.
-ghost use Rattle.std.specs.Prelude.{◌≡◌, ◌⊎◌, ℕ, List, All, true, IfOk, IfErr, OnOk, map, option_copied, string_bytes};
-ghost use Rattle.std.specs.Option.{option_flatten};
+ghost use Rattle.std.specs.Prelude.{◌≡◌, ◌⊎◌, [], ℕ, List, All, true, IfOk, IfErr, OnOk, map, string_bytes, unwrap_or};
 ghost use Rattle.edit_base.specs.Errors.{IsMemory};
 ghost use Rattle.edit_sources.specs.Configured.{given};
-ghost use Rattle.edit_sources.specs.ConfigurationFiles.{IsReadOf, IsConfigPath, IsSearched, HasFailed, FileFails, PlaceFails, AreConfigPaths, AreConfigs, ConfigsFail, IsFirstMalformed, StopsAtConfig, file_in};
+ghost use Rattle.edit_sources.specs.ConfigurationFiles.{AreReadIn, IsSearched, HasFailed, FolderFails, PlaceFails, AreConfigPaths, AreConfigs, ConfigsFail, IsFirstMalformed, StopsAtConfig};
 ghost use Rattle.edit_sources.specs.CachedConfigs.{AreCached, IsSearchedIn, found_at, found_in};
 ghost use Rattle.edit_store.specs.Store.{OnlyReads, StoreView};
 
 use super::Config;
 use super::copies::{copied_paths, copies};
-use super::files::{add, config_in, places};
+use super::files::{add, configs_at, places};
 use edit_base::CargoResult;
 use edit_store::store::Store;
 use std::alloc::{AllocError, Global};
 use std::collections::BTreeMap;
 
-/// The configuration that was found in each folder that was searched. Errors are not cached.
+/// The configurations that were found in each folder that was searched: that of its file, and then those of
+/// the files that it includes. Errors are not cached.
 #[derive(Debug, Drop)]
 pub struct ConfigCache {
-    found: BTreeMap<String, Option<Config>>,
+    found: BTreeMap<String, Vec<Config>>,
 }
 
 impl ConfigCache {
@@ -31,15 +31,15 @@ impl ConfigCache {
         }
     }
 
-    /// Stores the configuration that was found in a folder.
-    fn insert_config(
+    /// Stores the configurations that were found in a folder.
+    fn insert_configs(
         &mut self,
         alloc: Global,
         place: &str,
-        found: Option<Config>,
+        found: Vec<Config>,
     ) -> Result<(), AllocError>
         ensures cached { (seen : StoreView) → AreCached seen self.old
-            → (seen.tells ≡ true → IsReadOf (file_in seen.file_at place.now) found)
+            → (seen.tells ≡ true → AreReadIn seen.file_at place.now found.items)
             → AreCached seen self.new }
         ensures searched { OnOk result (IsSearchedIn self.new place.now) }
         ensures others { (other : List ℕ) → IsSearchedIn self.old other → IsSearchedIn self.new other }
@@ -62,17 +62,16 @@ impl ConfigCache {
         ensures others { (other : List ℕ) → IsSearchedIn self.old other → IsSearchedIn self.new other }
         ensures error { IfErr result (λ e. IsMemory e
             ⊎ (HasFailed (S.view store.old).faults (S.view store.new).faults e
-            ⊎ FileFails (S.view store.old).tells (IsConfigPath place.now)
-            (file_in (S.view store.old).file_at place.now) e)) }
+            ⊎ FolderFails (S.view store.old).tells (S.view store.old).file_at place.now e)) }
     {
         if self.found.contains_key(place) {
             return Ok(());
         }
-        let found = match config_in(alloc, store, place) {
+        let found = match configs_at(alloc, store, place) {
             Ok(found) => found,
             Err(error) => return Err(error),
         };
-        self.insert_config(alloc, place, found)?;
+        self.insert_configs(alloc, place, found)?;
         Ok(())
     }
 
@@ -135,13 +134,13 @@ impl ConfigCache {
         }
     }
 
-    /// The configuration that was found in a folder; `None` where no file exists there.
-    fn config_at(&self, place: &str) -> Option<&Config>
-        ensures { option_copied result ≡ option_flatten (found_at self.now place.now) }
+    /// The configurations that were found in a folder; none where no file exists there.
+    fn cached_configs(&self, place: &str) -> &[Config]
+        ensures { result.now ≡ unwrap_or (found_at self.now place.now) [] }
     {
         match self.found.get(place) {
-            Some(found) => found.as_ref(),
-            None => None,
+            Some(found) => found.as_slice(),
+            None => &[],
         }
     }
 
@@ -152,7 +151,7 @@ impl ConfigCache {
     {
         let mut configs = Vec::new(alloc);
         for place in places {
-            add(&mut configs, self.config_at(place.as_str()))?;
+            add(&mut configs, self.cached_configs(place.as_str()))?;
         }
         Ok(configs)
     }
@@ -229,9 +228,12 @@ impl ConfigCache {
 
 /// Returns the configurations of a manifest, the first one first: in each folder from the manifest's upwards
 /// `.cargo/config`, else `.cargo/config.toml`, and then `config`, else `config.toml` of `cargo_home`, if it
-/// is given. Only files count (Cargo reference, "Hierarchical structure").
+/// is given. Only files count (Cargo reference, "Hierarchical structure"). Each is followed by the files that
+/// it includes: what stands later in `include` comes first (Cargo reference, "Configuration", include).
 ///
-/// `Error::Config` where such a file is malformed, and `Error::Device` where the store fails.
+/// `Error::Config` where such a file or its `include` is malformed, where an included file is absent and not
+/// optional or was read before, and where a file leads to more than 128; `Error::Device` where the store
+/// fails.
 pub fn read_configs<S: Store>(
     alloc: Global,
     store: &mut S,

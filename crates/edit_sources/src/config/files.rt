@@ -1,13 +1,13 @@
 //! Finds and reads configuration files.
-ghost use Rattle.std.specs.Prelude.{◌≡◌, ◌⊎◌, ◌++◌, true, IfOk, IfErr, OnOk, map, option_copied, string_bytes};
-ghost use Rattle.std.specs.Option.{option_to_list};
+ghost use Rattle.std.specs.Prelude.{◌≡◌, ◌⊎◌, ◌++◌, true, IfOk, IfErr, OnOk, map, string_bytes};
 ghost use Rattle.edit_base.specs.Errors.{IsMemory};
 ghost use Rattle.edit_base.specs.Paths.{texts};
 ghost use Rattle.edit_sources.specs.Configured.{given};
-ghost use Rattle.edit_sources.specs.ConfigurationFiles.{IsUpwards, IsSearched, IsReadOf, HasFailed, FileFails, IsConfigPath, existing_file, file_in};
+ghost use Rattle.edit_sources.specs.ConfigurationFiles.{AreReadIn, FolderFails, HasFailed, IsSearched, IsUpwards};
 ghost use Rattle.edit_store.specs.Store.{OnlyReads};
 
 use super::Config;
+use super::following::follow;
 use edit_base::CargoResult;
 use edit_base::paths::{folder, join};
 use edit_store::store::Store;
@@ -49,69 +49,47 @@ pub(super) fn places(
     Ok(places)
 }
 
-/// Reads a configuration file; `None` where no file exists at the path.
-fn read_file<S: Store>(alloc: Global, store: &mut S, path: &str) -> CargoResult<Option<Config>>
-    ensures store { OnlyReads (S.view store.old) (S.view store.new) }
-    ensures read { IfOk result (λ found. (S.view store.old).tells ≡ true
-        → IsReadOf (existing_file (S.view store.old).file_at path.now) found) }
-    ensures error { IfErr result (λ e. IsMemory e
-        ⊎ (HasFailed (S.view store.old).faults (S.view store.new).faults e
-        ⊎ FileFails (S.view store.old).tells (λ at. at ≡ path.now)
-        (existing_file (S.view store.old).file_at path.now) e)) }
-{
-    let bytes = match store.read(alloc, path) {
-        Ok(Some(bytes)) => bytes,
-        Ok(None) => return Ok(None),
-        Err(error) => return Err(error),
-    };
-    match Config::read(alloc, path, &bytes) {
-        Ok(config) => Ok(Some(config)),
-        Err(error) => Err(error),
-    }
-}
-
-/// Reads the configuration in a folder: `config`, or else `config.toml`; `None` where neither exists.
-pub(super) fn config_in<S: Store>(
+/// Reads the configurations of a folder: that of `config`, or else of `config.toml`, each before those of the
+/// files that it includes; none where neither exists.
+pub(super) fn configs_at<S: Store>(
     alloc: Global,
     store: &mut S,
     place: &str,
-) -> CargoResult<Option<Config>>
+) -> CargoResult<Vec<Config>>
     ensures store { OnlyReads (S.view store.old) (S.view store.new) }
-    ensures read { IfOk result (λ found. (S.view store.old).tells ≡ true
-        → IsReadOf (file_in (S.view store.old).file_at place.now) found) }
+    ensures read { IfOk result (λ v. (S.view store.old).tells ≡ true
+        → AreReadIn (S.view store.old).file_at place.now v.items) }
     ensures error { IfErr result (λ e. IsMemory e
         ⊎ (HasFailed (S.view store.old).faults (S.view store.new).faults e
-        ⊎ FileFails (S.view store.old).tells (IsConfigPath place.now)
-        (file_in (S.view store.old).file_at place.now) e)) }
+        ⊎ FolderFails (S.view store.old).tells (S.view store.old).file_at place.now e)) }
 {
     let path = match join(alloc, place, "config") {
         Ok(path) => path,
         Err(error) => return Err(error),
     };
-    match read_file(alloc, store, path.as_str()) {
-        Ok(Some(config)) => return Ok(Some(config)),
-        Ok(None) => {}
+    let configs = match follow(alloc, store, path) {
+        Ok(configs) => configs,
         Err(error) => return Err(error),
+    };
+    if !configs.is_empty() {
+        return Ok(configs);
     }
     let path = match join(alloc, place, "config.toml") {
         Ok(path) => path,
         Err(error) => return Err(error),
     };
-    match read_file(alloc, store, path.as_str()) {
+    match follow(alloc, store, path) {
         Ok(found) => Ok(found),
         Err(error) => Err(error),
     }
 }
 
-/// Appends a configuration, if there is one.
-pub(super) fn add<'a>(
-    configs: &mut Vec<&'a Config>,
-    found: Option<&'a Config>,
-) -> Result<(), AllocError>
+/// Appends references to configurations.
+pub(super) fn add<'a>(configs: &mut Vec<&'a Config>, found: &'a [Config]) -> Result<(), AllocError>
     ensures { OnOk result (map (λ c. c.now) configs.new.items
-        ≡ map (λ c. c.now) configs.old.items ++ option_to_list (option_copied found.entry)) }
+        ≡ map (λ c. c.now) configs.old.items ++ found.entry.now) }
 {
-    if let Some(config) = found {
+    for config in found {
         configs.push(config)?;
     }
     Ok(())

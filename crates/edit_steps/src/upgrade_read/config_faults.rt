@@ -8,13 +8,23 @@ use crate::toml_fault::toml_fault;
 use edit_base::paths::{folder, join};
 use edit_base::{CargoResult, Error};
 use edit_metadata::Input;
+use edit_sources::Config;
 use edit_store::Store;
 use std::alloc::Global;
 use std::collections::BTreeSet;
 
 /// The help for a configuration that is TOML but has values of other types.
 const SHAPE: &str =
-    "`registries` and `source` have to be tables of tables, and `index`, `registry` and `replace-with` in these strings";
+    "`registries` and `source` have to be tables of tables, and `index`, `registry` and `replace-with` in \
+     these strings";
+
+/// The help for a configuration that is well-formed itself.
+const INCLUDE: &str =
+    "`include` has to be an array of paths that end in `.toml`, or of tables with such a `path`; a file may \
+     be included only once, and at most 128 files in all";
+
+/// The help for a configuration file that does not exist.
+const ABSENT: &str = "another configuration file includes this one, and it does not exist";
 
 /// Adds the two paths of a folder's configuration, unless the folder was added before.
 fn push_files(
@@ -53,8 +63,8 @@ fn config_paths(
     Ok(paths)
 }
 
-/// The place and the cause of an error of a configuration file: a TOML syntax error, or what its values
-/// must be.
+/// The place and the cause of an error of a configuration file: a TOML syntax error, what its values must
+/// be, or that it does not exist.
 fn place_and_cause<S: Store>(
     alloc: Global,
     path: &str,
@@ -62,20 +72,28 @@ fn place_and_cause<S: Store>(
 ) -> (Option<String>, Option<String>)
     ensures reads { OnlyReads (S.view files.old) (S.view files.new) }
 {
+    let place = String::from_str(alloc, path).ok();
     let bytes = match files.read(alloc, path) {
         Ok(Some(bytes)) => bytes,
-        _ => return (String::from_str(alloc, path).ok(), None),
+        Ok(None) => return (place, String::from_str(alloc, ABSENT).ok()),
+        Err(_) => return (place, None),
     };
     match toml_fault(alloc, &bytes) {
         Some(fault) => (
             shown_position(alloc, path, &bytes, fault.at),
             Some(fault.message),
         ),
-        None => (
-            String::from_str(alloc, path).ok(),
-            String::from_str(alloc, SHAPE).ok(),
-        ),
+        None => (place, shape_of(alloc, path, &bytes)),
     }
+}
+
+/// What the values of a configuration file must be, for a file that is TOML.
+fn shape_of(alloc: Global, path: &str, bytes: &[u8]) -> Option<String> {
+    let help = match Config::read(alloc, path, bytes) {
+        Ok(_) => INCLUDE,
+        Err(_) => SHAPE,
+    };
+    String::from_str(alloc, help).ok()
 }
 
 /// Adds to an error of reading configurations the file that caused it.

@@ -1,5 +1,4 @@
 use Rattle.std.proofs.Common.{◌++◌, ◌∙◌, ap, map}
-use Rattle.std.specs.Option.{option_to_list}
 use Rattle.edit_sources.proofs.CachedConfigLemmas.{found_more}
 use Rattle.edit_sources.proofs.config.cache.ConfigCache.configs_in.Goals as goal
 
@@ -8,4 +7,4 @@ loop-place-preserved c = found_more c.args.self.now c.args.places.now c.loop-pla
     c.place-item.result c.as_str.result.now (map (λ x. x.now) c.loop-place.configs.items)
     (map (λ x. x.now) c.add.new.configs.items) c.loop-place-test.true c.place-item.is c.as_str.ensures.value
     c.loop-place.invariant (c.in_ok-add.ensures
-    ∙ ap (λ o. map (λ x. x.now) c.loop-place.configs.items ++ option_to_list o) c.config_at.ensures)
+    ∙ ap (λ cs. map (λ x. x.now) c.loop-place.configs.items ++ cs) c.cached_configs.ensures)
