@@ -111,6 +111,48 @@ row_default_registry_by_name() {
   says_once '^warning: .*dep, other'
 }
 
+# Settings of included files: cargo and the command ask the same registry.
+included() { # LINE NAME: the configuration becomes the file NAME, and LINE includes it
+  mkdir -p "$(dirname "$CARGO_HOME/$2")"
+  mv "$CARGO_HOME/config.toml" "$CARGO_HOME/$2"
+  printf '%s\n' "$1" > "$CARGO_HOME/config.toml"
+}
+both_ask() { # PATH
+  touch "$room/all"
+  "$cargo" update --dry-run > "$room/log" 2>&1 || fail "cargo update: $(cat "$room/log")"
+  grep -q "^$1 " "$room/requests" || fail "cargo does not ask for $1"
+  rm "$room/all" "$room/requests"
+  run 0 upgrade -n
+  dep_shown
+  grep -q "^$1 " "$room/requests" || fail "no request for $1"
+}
+row_include() {
+  included 'include = ["more.toml"]' more.toml
+  both_ask /one/3/d/dep
+}
+row_include_of_a_folder() {
+  included 'include = [{ path = "sub/more.toml" }, { path = "gone.toml", optional = true }]' sub/more.toml
+  printf 'include = ["../last.toml"]\n%s\n' "$(cat "$CARGO_HOME/sub/more.toml")" > "$CARGO_HOME/sub/more.toml"
+  printf '[source.one]\nregistry = "sparse+%s/two/"\n' "$base" > "$CARGO_HOME/last.toml"
+  both_ask /one/3/d/dep
+}
+row_include_later_first() {
+  included 'include = ["far.toml", "near.toml"]' near.toml
+  sed 's,/one/",/two/",' "$CARGO_HOME/near.toml" > "$CARGO_HOME/far.toml"
+  both_ask /one/3/d/dep
+}
+row_include_behind_the_file() {
+  included 'include = ["far.toml"]' far.toml
+  sed -i 's,/one/",/two/",' "$CARGO_HOME/far.toml"
+  printf '\n[source.one]\nregistry = "sparse+%s/one/"\n' "$base" >> "$CARGO_HOME/config.toml"
+  both_ask /one/3/d/dep
+}
+# An entry `registries.crates-io` does not change where crates.io comes from.
+row_protocol_of_crates_io() {
+  printf '\n[registries.crates-io]\nprotocol = "sparse"\nindex = "sparse+http://127.0.0.1:1/"\n' >> "$CARGO_HOME/config.toml"
+  CARGO_REGISTRIES_CRATES_IO_INDEX='sparse+http://127.0.0.1:1/' both_ask /one/3/d/dep
+}
+
 # A token goes to the host of its registry and to nothing else.
 row_token() {
   private "sparse+$base/one/"
@@ -252,6 +294,27 @@ row_local_registry() {
 row_git_source() {
   replaced_by 'git = "https://127.0.0.1:1/git"'
   unread upgrade -n
+}
+# The git index of crates.io, which cargo reads by this protocol, cannot be read.
+row_git_protocol() {
+  printf '[package]\nname = "a"\nversion = "0.1.0"\nedition = "2021"\n\n[dependencies]\ndep = "1.0"\n' > Cargo.toml
+  rm -f Cargo.lock
+  sed -i '/^\[source/,$d' "$CARGO_HOME/config.toml"
+  printf '\n[registries.crates-io]\nprotocol = "git"\n' >> "$CARGO_HOME/config.toml"
+  run 1 upgrade -n
+  says_once 'key .registries.crates-io.protocol. of .*/config[.]toml: dep '
+  says sparse
+  [ "$(requests)" = 0 ] || fail 'a request'
+  run 0 upgrade -n --offline
+  says_once '^warning: .* dep'
+  run 0 upgrade -n --exclude dep
+  sed -i 's/protocol = "git"/protocol = "sparse"/' "$CARGO_HOME/config.toml"
+  CARGO_REGISTRIES_CRATES_IO_PROTOCOL=git run 1 upgrade -n
+  says_once 'key .registries.crates-io.protocol. of CARGO_REGISTRIES_CRATES_IO_PROTOCOL: dep '
+}
+row_git_protocol_of_a_mirror() {
+  CARGO_REGISTRIES_CRATES_IO_PROTOCOL=git run 0 upgrade -n
+  shown
 }
 row_vendored_member() {
   mkdir -p m/src m/.cargo

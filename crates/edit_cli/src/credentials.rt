@@ -2,7 +2,6 @@
 //! `credential-reply` and `fetch-config`.
 
 mod answers;
-mod files;
 mod notes;
 mod probes;
 mod protocol;

@@ -2,6 +2,7 @@
 
 mod configurations;
 mod environment;
+mod git_protocol;
 mod registry_errors;
 
 use crate::fetch_arguments::{
@@ -18,7 +19,8 @@ use edit_program::run;
 use edit_sources::Config;
 use edit_sources::config::read_configs;
 use edit_store::{HostStore, Store};
-use registry_errors::unfetchable_error;
+use git_protocol::git_protocol_place;
+use registry_errors::{Definitions, unfetchable_error};
 use std::io::Write;
 use std::str;
 
@@ -94,7 +96,9 @@ fn plan_upgrade<E: Write>(
     let mut files = HostStore::new(rt.clone()?);
     let room = join(rt.alloc(), current, arguments.room)?;
     let all = all_configs(rt, &mut files, metadata_file(matches), current, home)?;
-    let environment = write_configurations(rt, &mut files, room.as_str(), &all)?;
+    let git_place = git_protocol_place(rt, &mut files, &all)?;
+    let git_place = git_place.as_deref();
+    let environment = write_configurations(rt, &mut files, room.as_str(), &all, git_place)?;
     let mut text = Vec::new(rt.alloc());
     let status = lookups_text(rt, arguments, current, home, &mut text, err)?;
     if status != 0 {
@@ -103,20 +107,35 @@ fn plan_upgrade<E: Write>(
     let Ok(text) = str::from_utf8(&text) else {
         return Err(Error::NotUtf8);
     };
-    let manifest_path = join(rt.alloc(), current, "Cargo.toml")?;
-    let configs = read_configs(rt.alloc(), &mut files, manifest_path.as_str(), home)?;
-    let mut settings = settings(rt, &mut files, &configs)?;
+    let mut settings = settings_in(rt, &mut files, current, home)?;
     settings.offline = settings.offline || arguments.offline;
     write_retries(rt, &mut files, room.as_str(), &settings)?;
     let excluded = excluded_names(matches).unwrap_or(&[]);
+    let definitions = Definitions {
+        environment: &environment,
+        configs: &all,
+        git_place,
+    };
     if !settings.offline
-        && let Some(error) = unfetchable_error(rt, text, excluded, &environment, &all)?
+        && let Some(error) = unfetchable_error(rt, text, excluded, definitions)?
     {
         let _ = writeln!(err, "Error: {error}");
         return Ok(1);
     }
     let count = plan_lookups(rt, &mut files, arguments, current, &settings, text)?;
     print_count(rt, count, err)
+}
+
+/// The network settings for a run in a folder.
+fn settings_in(
+    rt: &HostRuntime,
+    files: &mut HostStore<HostRuntime>,
+    current: &str,
+    home: Option<&str>,
+) -> CargoResult<NetSettings> {
+    let manifest_path = join(rt.alloc(), current, "Cargo.toml")?;
+    let configs = read_configs(rt.alloc(), files, manifest_path.as_str(), home)?;
+    settings(rt, files, &configs)
 }
 
 /// Writes how often a failed transfer is tried again into the file `retry` in the folder of this run.

@@ -19,6 +19,7 @@ mod next_call;
 mod parsing;
 mod plan;
 mod script_commands;
+mod setting_files;
 mod shell_options;
 mod shell_words;
 mod streams;

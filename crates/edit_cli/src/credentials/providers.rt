@@ -1,6 +1,6 @@
 //! Credential providers as they are configured.
 
-use super::files::{SettingsFile, value_at};
+use crate::setting_files::{SettingsFile, value_at};
 use edit_base::CargoResult;
 use edit_base::paths::{folder, join};
 use std::alloc::AllocError;

@@ -1,7 +1,7 @@
 //! Reads the tokens and providers that are configured for registries.
 
-use super::files::{SettingsFile, read_config_files, read_credentials, text_at, value_at};
 use super::providers::{ProviderCommand, add_global_providers, provider_in, provider_of_text};
+use crate::setting_files::{SettingsFile, read_config_files, read_credentials, text_at, value_at};
 use edit_base::{CargoResult, Error};
 use edit_fetch::{Place, counted_place, is_header_text, provider_variable, token_variable};
 use edit_sources::Config;

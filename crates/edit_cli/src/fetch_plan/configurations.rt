@@ -3,19 +3,23 @@
 use crate::fetch_plan::environment::variables;
 use edit_base::CargoResult;
 use edit_base::paths::join;
-use edit_fetch::{addressless_sources, default_registry_text, sources_text, variables_text};
+use edit_fetch::{
+    AddresslessSource, addressless_sources, default_registry_text, sources_text, variables_text,
+};
 use edit_metadata::Workspace;
 use edit_sources::{Config, ConfigCache};
 use edit_store::{HostStore, Store};
 
 /// Writes the two files into the folder of this run: `first.toml`, which counts before all others, has the
-/// registries that variables define and an address for each source that has none; `last.toml`, which counts
-/// after all others, has what cargo has built in. The answer is what the first says.
+/// registries that variables define and a placeholder address for each source that has none; `last.toml`,
+/// which counts after all others, has the address of crates.io that is built into cargo, or a placeholder if
+/// `git_place` chooses its git index. Returns the configuration of the first file.
 pub(super) fn write_configurations(
     rt: &HostRuntime,
     files: &mut HostStore<HostRuntime>,
     room: &str,
     configs: &[Config],
+    git_place: Option<&str>,
 ) -> CargoResult<Config> {
     let alloc = rt.alloc();
     let variables = variables(rt, files)?;
@@ -25,8 +29,20 @@ pub(super) fn write_configurations(
     let first = join(alloc, room, "first.toml")?;
     files.write(alloc, first.as_str(), &text)?;
     let last = join(alloc, room, "last.toml")?;
-    files.write(alloc, last.as_str(), &default_registry_text(alloc)?)?;
+    files.write(alloc, last.as_str(), &last_text(rt, git_place)?)?;
     Config::read(alloc, first.as_str(), &text)
+}
+
+/// The text of the file that counts after all others.
+fn last_text(rt: &HostRuntime, git_place: Option<&str>) -> CargoResult<Vec<u8>> {
+    let Some(file) = git_place else {
+        return Ok(default_registry_text(rt.alloc())?);
+    };
+    let source = AddresslessSource {
+        key: "crates-io",
+        file,
+    };
+    Ok(sources_text(rt.alloc(), &[source])?)
 }
 
 /// The first of these files, as `write_configurations` wrote it.

@@ -10,6 +10,20 @@ use std::alloc::AllocError;
 const VENDORED: &str =
     " (a vendored folder, or another source without a registry: take the replacement out for this run)";
 
+/// The message for crates.io where cargo reads its git index.
+const GIT_PROTOCOL: &str =
+    " (the git index of crates.io cannot be read: set the protocol \"sparse\")";
+
+/// What defines registries: variables, configuration files, and the protocol of crates.io.
+#[derive(Clone, Copy)]
+pub(super) struct Definitions<'a> {
+    /// The registries that variables define.
+    pub(super) environment: &'a Config,
+    pub(super) configs: &'a [Config],
+    /// The variable or the file that chooses the git index of crates.io, if one does.
+    pub(super) git_place: Option<&'a str>,
+}
+
 /// A registry whose index entries cannot be fetched, and the crates looked up there.
 #[derive(Debug, Drop)]
 struct UnfetchableRegistry<'a> {
@@ -127,47 +141,65 @@ fn push_defined(
     Ok(false)
 }
 
+/// Appends what defines a registry, and returns why its entries cannot be fetched.
+fn push_cause(
+    rt: &HostRuntime,
+    to: &mut String,
+    definitions: Definitions<'_>,
+    sources: &[AddresslessSource<'_>],
+    address: &str,
+) -> CargoResult<&'static str> {
+    if let Some(place) = definitions.git_place {
+        let stand_in = placeholder_address(rt.alloc(), "crates-io")?;
+        if is_address(rt, Some(stand_in.as_str()), address)? {
+            push_definition(to, "key", "registries.crates-io.protocol", place)?;
+            return Ok(GIT_PROTOCOL);
+        }
+    }
+    if push_addressless(rt, to, sources, address)? {
+        return Ok(VENDORED);
+    }
+    let shown = strip_userinfo(rt.alloc(), address)?;
+    if push_defined(
+        rt,
+        to,
+        definitions.environment,
+        definitions.configs,
+        address,
+    )? {
+        to.push_str(", ")?;
+    }
+    push_escaped(to, shown.as_str())?;
+    Ok(" (only sparse registries and folders can be read)")
+}
+
 /// Appends the line of a registry: its definition, its crates, and why their entries cannot be fetched.
 fn push_unfetchable(
     rt: &HostRuntime,
     to: &mut String,
-    environment: &Config,
-    configs: &[Config],
+    definitions: Definitions<'_>,
     sources: &[AddresslessSource<'_>],
     registry: &UnfetchableRegistry<'_>,
 ) -> CargoResult<()> {
     to.push_str("\n  ")?;
-    let addressless = push_addressless(rt, to, sources, registry.address)?;
-    if !addressless {
-        let shown = strip_userinfo(rt.alloc(), registry.address)?;
-        if push_defined(rt, to, environment, configs, registry.address)? {
-            to.push_str(", ")?;
-        }
-        push_escaped(to, shown.as_str())?;
-    }
+    let cause = push_cause(rt, to, definitions, sources, registry.address)?;
     let mut separator = ": ";
     for name in &registry.names {
         to.push_str(separator)?;
         push_escaped(to, name)?;
         separator = ", ";
     }
-    to.push_str(if addressless {
-        VENDORED
-    } else {
-        " (only sparse registries and folders can be read)"
-    })?;
+    to.push_str(cause)?;
     Ok(())
 }
 
-/// The error for the lookups of a text in registries of which no entry can be had; none where there are
-/// none, excluded crates aside. Each registry has a line, with the configuration file that defines it;
-/// `environment` has the registries that variables define.
+/// The error for lookups in registries whose entries cannot be fetched, with a line for each registry and the
+/// configuration file that defines it; `None` if there is no such lookup except of excluded crates.
 pub(super) fn unfetchable_error(
     rt: &HostRuntime,
     lookups: &str,
     excluded: &[&str],
-    environment: &Config,
-    configs: &[Config],
+    definitions: Definitions<'_>,
 ) -> CargoResult<Option<String>> {
     let Some(lookups) = read_lookups(rt.alloc(), lookups)? else {
         return Ok(None);
@@ -176,13 +208,13 @@ pub(super) fn unfetchable_error(
     if registries.is_empty() {
         return Ok(None);
     }
-    let sources = addressless_sources(rt.alloc(), configs)?;
+    let sources = addressless_sources(rt.alloc(), definitions.configs)?;
     let mut text = String::from_str(
         rt.alloc(),
         "index entries cannot be had; leave the crates out by `--exclude`, or as they are by `--offline`:",
     )?;
     for registry in &registries {
-        push_unfetchable(rt, &mut text, environment, configs, &sources, registry)?;
+        push_unfetchable(rt, &mut text, definitions, &sources, registry)?;
     }
     Ok(Some(text))
 }

@@ -100,9 +100,9 @@ pub(super) fn print<E: Write>(
     };
     let _ = write!(
         err,
-        "Error: the manifests are written, but Cargo.lock has packages beyond the bound{bound}, which cargo \
-         did not set back:\n{left}  help: require older versions of the crates that need them, or upgrade with \
-         another bound\n"
+        "Error: the manifests are written, but Cargo.lock has packages beyond the bound{bound}, which \
+         cargo did not set back:\n{left}  help: require older versions of the crates that need them, or \
+         upgrade with another bound\n"
     );
     Ok(true)
 }

@@ -9,9 +9,9 @@ use toml::{Table, Value};
 
 /// A file of settings as it was read.
 #[derive(Drop)]
-pub(super) struct SettingsFile {
-    pub(super) path: String,
-    pub(super) table: Table,
+pub(crate) struct SettingsFile {
+    pub(crate) path: String,
+    pub(crate) table: Table,
 }
 
 /// Reads a file of settings; `None` where there is none.
@@ -35,7 +35,7 @@ fn read_file(
 }
 
 /// Reads the file of credentials in the home folder of cargo: `credentials`, else `credentials.toml`.
-pub(super) fn read_credentials(
+pub(crate) fn read_credentials(
     rt: &HostRuntime,
     files: &mut HostStore<HostRuntime>,
     home: Option<&str>,
@@ -52,7 +52,7 @@ pub(super) fn read_credentials(
 }
 
 /// Reads the files of configurations again, in their order.
-pub(super) fn read_config_files(
+pub(crate) fn read_config_files(
     rt: &HostRuntime,
     files: &mut HostStore<HostRuntime>,
     configs: &[Config],
@@ -67,7 +67,7 @@ pub(super) fn read_config_files(
 }
 
 /// The value at a path of keys in nested tables.
-pub(super) fn value_at<'a>(table: &'a Table, keys: &[&str]) -> Option<&'a Value> {
+pub(crate) fn value_at<'a>(table: &'a Table, keys: &[&str]) -> Option<&'a Value> {
     let (first, rest) = keys.split_first()?;
     let mut value = table.get(*first)?;
     for key in rest {
@@ -77,6 +77,6 @@ pub(super) fn value_at<'a>(table: &'a Table, keys: &[&str]) -> Option<&'a Value>
 }
 
 /// The text at a path of keys.
-pub(super) fn text_at<'a>(table: &'a Table, keys: &[&str]) -> Option<&'a str> {
+pub(crate) fn text_at<'a>(table: &'a Table, keys: &[&str]) -> Option<&'a str> {
     value_at(table, keys)?.as_str()
 }
