@@ -20,10 +20,14 @@ TEXTS = {
     ("set-version", "--locked"): "Stops with an error where Cargo.lock is not up to date, and leaves it as it is",
 }
 
+# what an option of cargo itself sets
+UNSEEN = "Settings of `cargo --config` are not seen: write them into a configuration file of cargo."
+
 FILES = (
     ("$XDG_CACHE_HOME/cargo-edit/index, ~/.cache/cargo-edit/index", "Cached index entries. It may be removed at any time."),
     ("Cargo.toml, Cargo.lock", "What is changed: requirements or versions in the manifests, and what cargo makes of them."),
-    (".cargo/config.toml, $CARGO_HOME/config.toml", "The configuration of cargo: registries, source replacement, network."),
+    (".cargo/config.toml, $CARGO_HOME/config.toml", "The configuration of cargo: registries, source replacement, network. "
+     + UNSEEN),
 )
 
 ENVIRONMENT = (
@@ -100,6 +104,8 @@ def written(entry):
 def with_more(name, page):
     """The same with what its help has at the end."""
     more = "`man cargo-%s` has examples%s, files and the environment." % (name, ", the policy of a project" * (name == "upgrade"))
+    if name == "upgrade":
+        more += f"\n{UNSEEN}"
     return help_text.Help(page.about, page.usage, page.sections + [("", [], more)])
 
 

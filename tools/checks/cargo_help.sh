@@ -21,6 +21,8 @@ row_help() {
     grep -q -E "^Usage: cargo $command " "$room/out" || fail 'no usage of the command'
     run 0 "$command" --version
   done
+  run 0 upgrade --help
+  has "$room/out" 'cargo --config'
 }
 row_man_pages() {
   local command section
