@@ -25,8 +25,8 @@ pub data MeansBy (code : Bor (List ℕ)) (redirects : List ℕ) : Meaning → Ty
   other : code.now ≢ codes "200" → code.now ≢ codes "304" → (IsAbsence code.now → ⊥)
       → MeansBy code redirects (Failed (Status code))
 
--- the meaning of a transfer; the HTTP status of a failed one is ignored, and `token` in place of the exit code
--- says that the registry accepted no token (own)
+-- the meaning of a transfer; the HTTP status of a failed one is ignored, and `token` in place of the exit
+-- code says that the registry accepted no token (own)
 pub data Means : Option Answer → Meaning → Type 0 where
   unanswered : Means None (Failed Unanswered)
   failed : (a : Answer) → a.exit.now ≢ codes "0" → a.exit.now ≢ codes "token"

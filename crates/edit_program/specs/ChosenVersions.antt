@@ -31,7 +31,7 @@ abbrev pub chosen_as : Bool → List ℕ → Option (List ℕ) → List (List �
 chosen_as bounded name None = []
 chosen_as bounded name (Some version) = if bounded then (name, version) ∷ [] else []
 
--- the crate of a row, with the version that its requirement was raised to, where its versions are bounded (own)
+-- the crate of a row with the version that its requirement was raised to, if its versions are bounded (own)
 abbrev pub chosen_of : LockPlan → Row → List (List ℕ × List ℕ)
 chosen_of p r = chosen_as (is_bounded p (string_bytes r.name)) (string_bytes r.name) (chosen_text r)
 

@@ -14,9 +14,8 @@ use Rattle.edit_program.specs.declared.upgrade_run.upgrade_args.UpgradeArgs.{Upg
 abbrev pub prints_nothing : List ℕ → Type 0
 prints_nothing text = ⊥
 
--- the given files were read and planned by the policy, the plan is unified and restricted to chosen rows where
--- that is requested, and it stands beside the options, the bound and the policy of crates that it was made by
--- (own)
+-- the given files were read and planned by the policy, and the plan is unified and restricted to chosen
+-- rows, if that is requested; the options, the bound and the policy of crates are those of the run (own)
 pub record IsLockPlan (args : UpgradeArgs) (current : List ℕ) (home : Option (List ℕ)) (local : StoreView)
     (files : Files) (p : LockPlan) : Type 0 where
   pub readings : Readings

@@ -73,8 +73,8 @@ impl LockPlan {
             || self.options.levels().for_crate(name).is_some()
     }
 
-    /// The crates whose requirements change, each with the version that its requirement was raised to, in the
-    /// order of the rows; only those whose versions are bounded, and none whose requirement an argument gives.
+    /// The crates whose requirements change, each with the version that its requirement was raised to, in
+    /// the order of the rows: only crates whose versions are bounded, and none of `-p NAME@REQ`.
     pub fn chosen_versions(&self, alloc: Global) -> Result<Vec<ChosenVersion<'_>>, AllocError>
         ensures { IfOk result (λ v. map pair_of v.items ≡ chosen_in self.now) }
     {
