@@ -30,7 +30,7 @@ fn setting(rt: &HostRuntime, name: &str) -> CargoResult<Option<String>> {
     }
 }
 
-/// The choice of `--color`, where it is given, else that of `CARGO_TERM_COLOR`.
+/// The choice of `--color`, if it is given, else the choice of `CARGO_TERM_COLOR`.
 fn choice(rt: &HostRuntime, given: Option<&str>) -> CargoResult<ColorChoice> {
     if let Some(text) = given {
         return Ok(choice_of(text).unwrap_or(ColorChoice::Auto));

@@ -54,8 +54,8 @@ pub(crate) fn read_network(
     })
 }
 
-/// Runs `fetch-plan`, and returns the exit status: that of `looks` where that is not 0, 1 for registries
-/// whose entries cannot be fetched, and 2 for a usage error.
+/// Runs `fetch-plan`, and returns the exit status: the status of `looks` if that is not 0, else 1 if entries
+/// of a registry cannot be fetched, and 2 for a usage error.
 pub(crate) fn fetch_plan<E: Write>(
     rt: &HostRuntime,
     arguments: &[&str],
@@ -150,8 +150,8 @@ fn write_retries(
     files.write(rt.alloc(), path.as_str(), text.as_bytes())
 }
 
-/// Appends the lookups of a file, where one is given, else those of the upgrade, and returns the exit
-/// status.
+/// Appends the lookups of the file of `--lookups`, if it is given, else the lookups of the upgrade, and
+/// returns the exit status.
 fn lookups_text<E: Write>(
     rt: &HostRuntime,
     arguments: &FetchArguments<'_>,

@@ -85,7 +85,7 @@ fn push_result(
     push_answer(rt, &mut results.answers, line, code, message.as_str())
 }
 
-/// Appends, for each of these transfers, that its files could not be written. On a full disk curl cannot
+/// Appends an answer for each of these transfers: its files could not be written. On a full disk curl cannot
 /// write its own line about a transfer either.
 fn push_unsaid(
     rt: &HostRuntime,

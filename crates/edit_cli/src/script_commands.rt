@@ -1,4 +1,4 @@
-//! The subcommands for the scripts behind `cargo upgrade` and `cargo set-version`.
+//! The subcommands for the scripts of `cargo upgrade` and `cargo set-version`.
 use crate::checks::Folders;
 use crate::credentials::{credential_reply, credentials};
 use crate::failures::print_error_message;

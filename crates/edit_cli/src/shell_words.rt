@@ -5,7 +5,7 @@ use edit_shell::push_word;
 use std::alloc::{AllocError, Global};
 use std::io::Write;
 
-/// Appends an argument, behind a space if it is not the first one.
+/// Appends an argument, after a space if it is not the first one.
 fn push_next(text: &mut Vec<u8>, argument: &str) -> Result<(), AllocError> {
     if !text.is_empty() {
         text.push(b' ')?;

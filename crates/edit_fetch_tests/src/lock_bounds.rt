@@ -1,5 +1,5 @@
-//! Tests of which packages of a lock file are set back. The versions to which they are set back follow by hand
-//! from the requirements and SemVer's precedence.
+//! Tests of which packages of a lock file are set back. The versions to which they are set back follow by
+//! hand from the requirements and SemVer's precedence.
 use edit_lock_bounds::{
     Bounds, ChosenVersion, Correction, EligibleVersions, LockChange, Outcome, Package, Requirement,
     corrections_of, lookups_of, read_packages,

@@ -62,7 +62,8 @@ fn searched_places(rt: &HostRuntime, registry: &Registry) -> CargoResult<String>
         format!(in rt.alloc(); "registries.{name}.token")?
     };
     Ok(format!(in rt.alloc();
-        "`cargo:token` looked for {variable}, and for {key} in cargo's credentials.toml and configuration files"
+        "`cargo:token` looked for {variable}, and for {key} in cargo's credentials.toml and configuration \
+         files"
     )?)
 }
 

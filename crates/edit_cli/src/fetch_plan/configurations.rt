@@ -45,7 +45,7 @@ fn last_text(rt: &HostRuntime, git_place: Option<&str>) -> CargoResult<Vec<u8>> 
     Ok(sources_text(rt.alloc(), &[source])?)
 }
 
-/// The first of these files, as `write_configurations` wrote it.
+/// Reads the configuration that `write_configurations` wrote into `first.toml`.
 pub(super) fn written_configuration(
     rt: &HostRuntime,
     files: &mut HostStore<HostRuntime>,

@@ -14,7 +14,7 @@ const KEYS: [&str; 3] = ["registries", "crates-io", "protocol"];
 
 /// The variable or the configuration file that makes cargo read the git index of crates.io; `None` if it
 /// reads the sparse one (Cargo reference, "Configuration", `registries.crates-io.protocol`). The variable
-/// counts before the files, and of these the first that has the key.
+/// comes before the files, and the first file with the key before the others.
 pub(super) fn git_protocol_place(
     rt: &HostRuntime,
     files: &mut HostStore<HostRuntime>,
@@ -31,7 +31,7 @@ pub(super) fn git_protocol_place(
     Ok(None)
 }
 
-/// The place of a protocol, if it is that of a git index.
+/// The place where a protocol is set, if the protocol is `git`.
 fn place_if_git(rt: &HostRuntime, protocol: &str, place: &str) -> CargoResult<Option<String>> {
     if protocol != "git" {
         return Ok(None);

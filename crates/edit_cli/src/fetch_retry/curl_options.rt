@@ -9,7 +9,7 @@ fn number_of(options: &str) -> Option<usize> {
     number.parse::<usize>().ok()
 }
 
-/// Whether a transfer is one of these.
+/// Whether these are the options of one of the transfers.
 fn is_wanted(options: &str, transfers: &[Option<u64>]) -> bool {
     match number_of(options) {
         Some(number) => transfers.get(number).copied().flatten().is_some(),
@@ -17,7 +17,8 @@ fn is_wanted(options: &str, transfers: &[Option<u64>]) -> bool {
     }
 }
 
-/// Appends the options of a transfer if it is one of these; a line `next` separates it from the one before.
+/// Appends the options of a transfer if it is one of these transfers, after a line `next` unless it is the
+/// first.
 fn push_transfer(
     text: &mut String,
     options: &str,
