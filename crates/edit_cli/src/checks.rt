@@ -33,12 +33,12 @@ const HOME_NAMES: [&str; 2] = ["config.toml", "config"];
 #[derive(Clone, Copy)]
 pub(crate) struct Folders<'a> {
     pub(crate) current: &'a str,
-    /// The home folder of cargo, where there is one.
+    /// The home folder of cargo, if it is known.
     pub(crate) home: Option<&'a str>,
 }
 
 impl<'a> Folders<'a> {
-    /// The current folder, and the home folder of cargo where there is one.
+    /// The current folder, and the home folder of cargo if it is known.
     pub(crate) fn new(current: &'a str, home: Option<&'a str>) -> Folders<'a> {
         Folders { current, home }
     }

@@ -97,8 +97,8 @@ fn hold_values(alloc: Global, crates: &[CratePolicy]) -> Result<Value, AllocErro
     Ok(Value::Array(values))
 }
 
-/// A time in RFC 3339, or `null` if there is no bound. A time that RFC 3339 cannot represent becomes the first
-/// or the last one that it can.
+/// A time in RFC 3339, or `null` if there is no bound. A time that RFC 3339 cannot represent becomes the
+/// first or the last one that it can.
 fn time_value(alloc: Global, bound: Option<PublishedBefore>) -> Result<Value, AllocError> {
     let Some(bound) = bound else {
         return Ok(Value::Null);

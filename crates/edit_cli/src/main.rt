@@ -68,7 +68,7 @@ fn main(rt: HostRuntime) -> ExitCode {
     }
 }
 
-/// The place of an error that arose outside of a subcommand, where there is one.
+/// The place of an error outside of a subcommand, if it has one.
 fn place_of(error: &Error) -> Option<&'static str> {
     match error {
         Error::Output => Some("standard output"),
@@ -183,7 +183,7 @@ fn start_at(
     dispatch(rt, args, Folders::new(current, home), matches)
 }
 
-/// Runs these arguments in a given folder, with the home folder of cargo where there is one.
+/// Runs these arguments in a given folder, with the home folder of cargo if it is known.
 fn dispatch(
     rt: &HostRuntime,
     args: &[&str],

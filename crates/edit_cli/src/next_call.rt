@@ -1,5 +1,5 @@
 //! The subcommand `next-call`: the next call of `cargo update`, fitted to the lock file as it is now. The
-//! script behind `cargo upgrade` runs it before each call, since the previous call may have changed the
+//! script of `cargo upgrade` runs it before each call, since the previous call may have changed the
 //! lock file.
 
 use crate::parsing::print_parse_error;

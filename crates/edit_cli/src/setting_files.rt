@@ -14,7 +14,7 @@ pub(crate) struct SettingsFile {
     pub(crate) table: Table,
 }
 
-/// Reads a file of settings; `None` where there is none.
+/// Reads a file of settings; `None` if it does not exist.
 fn read_file(
     rt: &HostRuntime,
     files: &mut HostStore<HostRuntime>,

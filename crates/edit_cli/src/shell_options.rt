@@ -50,7 +50,7 @@ fn action_of(matches: &ArgMatches<'_>) -> Action {
     }
 }
 
-/// The option that a script gives itself and that is given to it too, where there is one.
+/// The first option that the script sets itself, if it is also among its arguments.
 fn repeated_option(matches: &ArgMatches<'_>) -> Option<&'static str> {
     let own = [
         ("config", "--config <FILE>"),
@@ -61,7 +61,7 @@ fn repeated_option(matches: &ArgMatches<'_>) -> Option<&'static str> {
     given.map(|(_, option)| *option)
 }
 
-/// A flag as the script passes it to cargo; empty where it is not given.
+/// A flag as the script passes it to cargo; empty if it is not given.
 fn flag_text(is_given: bool, flag: &'static str) -> &'static str {
     if is_given { flag } else { "" }
 }
@@ -158,7 +158,8 @@ fn with_metadata<'a>(
     Ok(all)
 }
 
-/// The arguments of a subcommand, parsed as those of the command of cargo, whose name stands in usage.
+/// Parses the arguments of a subcommand as the command of cargo has them; messages about usage name that
+/// command.
 fn parse_for_cargo<'a>(alloc: Global, args: &'a [&'a str]) -> Result<ArgMatches<'a>, clap::Error> {
     let command = command(alloc)?.bin_name("cargo")?;
     command.try_get_matches_from(args)

@@ -118,7 +118,7 @@ fn attempt_of(
     })
 }
 
-/// Reads curl's lines about the transfers of a round, and removes each of these from `transfers`. Where a
+/// Reads curl's lines about the transfers of a round, and removes each of these from `transfers`. If a
 /// transfer has several lines, the first one counts.
 pub(super) fn read_round<'a>(
     rt: &HostRuntime,
