@@ -2,7 +2,7 @@
 # release.sh PROGRAM   release/ is whole, and PROGRAM, which the gate built, is the released one byte for byte where both were
 # made from the same sources by the same toolchain. In a copy, a released program of which one byte differs is found by its
 # checksum, and, with a checksum that fits it, by the comparison. A release is made only where a verdict is kept of each
-# mutant over its sources.
+# mutant over its sources, or CI tried each.
 set -eu -o pipefail
 export LC_ALL=C
 here=$(cd "$(dirname "$0")/../.." && pwd)
@@ -20,11 +20,15 @@ cp "$program" release/cargo-edit
 { tools/sources && tools/sources --crates; } > release/SOURCES
 rt version > release/TOOLCHAIN
 sums() { (cd release && sha256sum cargo-edit SOURCES TOOLCHAIN > SHA256SUMS); }
-says() { # status, text, arguments of tools/release
+says() { # status, text, arguments of tools/release; make: none; tried COMMIT: tools/tried_by_ci
   local status=0 arguments=(--check "$program")
   [ $# = 2 ] || arguments=("${@:3}")
-  [ "${arguments[0]-}" != make ] || arguments=()
-  tools/release "${arguments[@]}" > "$room/out" 2>&1 || status=$?
+  local tool=tools/release
+  case ${arguments[0]-} in
+    make) arguments=() ;;
+    tried) tool=tools/tried_by_ci arguments=("${arguments[@]:1}") ;;
+  esac
+  "$tool" "${arguments[@]}" > "$room/out" 2>&1 || status=$?
   [ "$status" = "$1" ] && grep -q -F -- "$2" "$room/out" || { cat "$room/out"; echo "release.sh: not status $1 and: $2"; exit 1; }
 }
 sums
@@ -82,3 +86,20 @@ echo 'differs: an input' >> crates/edit_unify/wrong-bodies/lists_no_crate.edit
 echo "$(tools/sources) $(sha256sum < "$program")" > build/gate
 says 1 'crates/edit_unify/wrong-bodies/lists_no_crate.edit' make
 says 1 ' kept, 1 not' make
+
+# or CI tried the mutants, over a commit that landed: all of them, unless a crate was as in the release that this commit had
+git -c init.defaultBranch=main init -q .
+printf 'out\n/build\n' > .gitignore
+land() { git add -A && git -c user.name=tester -c user.email=tester@localhost commit -q -m "$1"; }
+tools/sources > release/SOURCES
+land 'with an older release'
+echo 'landed HEAD' >> build/gate
+says 0 'the gate of HEAD tried each mutant over these sources' make
+says 0 'the sources give the released program, byte for byte'
+land 'with the release of its sources'
+says 1 'is as in the release that HEAD had, so that CI tried a third of its mutants' make
+says 0 'the gate of HEAD~1 tried each mutant over these sources' tried HEAD~1
+echo '# a line' >> crates.txt
+{ echo "$(tools/sources) $(sha256sum < "$program")" && echo 'landed HEAD~1'; } > build/gate
+says 1 'are not those of HEAD~1' make
+says 1 'there is no commit elsewhere' tried elsewhere
