@@ -56,7 +56,8 @@ for words in '.ci/run --install' 'env CI=true .ci/run'; do
   rm "$room/installed"
 done
 runs 2 gate .ci/run --what
-says 'run \[--all\] \[--install\] .*'
+says 'run \[--all | --landed COMMIT\] \[--install\] .*'
+runs 2 gate .ci/run --landed
 runs 2 gate tools/gate_needs --what
 
 # All that it runs is counted, and the mutants that are tried are those that were asked for.
@@ -67,6 +68,16 @@ runs 0 gate .ci/run
 grep -q -x -- '--third --after .*' "$room/words" || fails "other mutants: $(cat "$room/words")"
 runs 0 gate .ci/run --all
 grep -q -x -- '--after .*' "$room/words" || fails "other mutants: $(cat "$room/words")"
+# Of sources over which CI tried them none is.
+# shellcheck disable=SC2016
+stand_in tools/tried_by_ci '[ "$1" = abc ]'
+rm "$room/words"
+runs 0 gate .ci/run --landed abc
+[ "$(tail -n 1 "$room/out")" = '4 passed, 0 failed' ] || fails 'another last line'
+[ ! -e "$room/words" ] || fails 'mutants were tried'
+[ "$(sed -n 2p build/gate)" = 'landed abc' ] || fails 'the commit is not noted'
+runs 1 gate .ci/run --landed other
+[ "$(tail -n 1 "$room/out")" = '0 passed, 1 failed' ] || fails 'another last line'
 stand_in tools/wrong_bodies "echo '1 refused, 1 let through'; exit 1"
 runs 1 gate .ci/run
 [ "$(tail -n 1 "$room/out")" = '5 passed, 1 failed' ] || fails 'another last line'
