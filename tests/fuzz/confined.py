@@ -35,6 +35,17 @@ def changed_leaves(before, after):
     return {place: new.get(place) for place in old.keys() | new.keys() if old.get(place) != new.get(place)}
 
 
+def value_of(literal):
+    """The text of a string literal."""
+    return tomllib.loads(plain(f"x = {literal}"))["x"]
+
+
+def is_written_anew(before, after):
+    """Whether a literal was replaced by one with the same text, which has build metadata: a requirement counts without
+    them, so that an explicit one with the same metadata is another one."""
+    return before != after and "+" in value_of(after) and value_of(before) == value_of(after)
+
+
 def changes(before, after):
     """The places that changed in a manifest with what stands there now, and the faults of that change."""
     faults = []
@@ -49,7 +60,7 @@ def changes(before, after):
                   min(len(old_rest), len(new_rest)))
         faults.append(f"a byte changed outside of string literals: {old_rest[max(0, at - 20):at + 20]!r}, "
                       f"{new_rest[max(0, at - 20):at + 20]!r}")
-    count = sum(a != b for a, b in zip(old_literals, new_literals))
+    count = sum(a != b and not is_written_anew(a, b) for a, b in zip(old_literals, new_literals))
     if len(old_literals) != len(new_literals) or count != len(found):
         faults.append(f"{count} literals changed, and {len(found)} places")
     return found, faults
