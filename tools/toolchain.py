@@ -1,4 +1,5 @@
-"""The toolchain as a Python module, and whether the libraries that it built can be used."""
+"""The toolchain as a Python module, its checksum, and whether the libraries that it built can be used."""
+import hashlib
 import importlib.machinery
 import importlib.util
 import os
@@ -12,6 +13,23 @@ def toolchain():
     made = importlib.util.module_from_spec(importlib.util.spec_from_loader("rt", loader))
     loader.exec_module(made)
     return made
+
+
+def kit_sum(kit):
+    """The checksum of the toolchain: the one that it has of itself, or, of a kit without one, that of its identity and of the
+    name, size and time of each file that a check reads."""
+    if hasattr(kit, "kit_sum"):
+        return kit.kit_sum()
+    found = hashlib.sha256()
+    with open(os.path.join(kit.KIT, "KIT-ID"), "rb") as file:
+        found.update(file.read())
+    for part in ("bin", "c", "logic_built", "rattle", "rlibs", "toolchain"):
+        for place, folders, names in os.walk(os.path.join(kit.KIT, part)):
+            folders.sort()
+            for path in (os.path.join(place, name) for name in sorted(names)):
+                state = os.lstat(path)
+                found.update(repr((os.path.relpath(path, kit.KIT), state.st_size, state.st_mtime_ns)).encode())
+    return found.hexdigest()
 
 
 def stale(library):

@@ -64,10 +64,10 @@ cat > "$room/keep.py" << 'END'
 import glob, os, sys
 sys.dont_write_bytecode = True
 sys.path.insert(0, "tools")
-from toolchain import toolchain
+from toolchain import kit_sum, toolchain
 from verdicts import Verdicts, usual_folder
 kit = toolchain()
-verdicts = Verdicts(kit.kit_sum(), usual_folder())
+verdicts = Verdicts(kit_sum(kit), usual_folder())
 for crate in kit.rtlib.crates_below(os.getcwd()):
     state = verdicts.state(crate)
     for file in glob.glob(crate.folder + "/wrong-bodies/*.edit"):
