@@ -260,6 +260,10 @@ def metadata():
     put(WORKSPACE + "/m.json", json.dumps(changed))
     set_version(36, ["--bump", "minor"], first, "  at @/m.json\n", '`version` is not a version in the package "m2"')
     changed = workspace()
+    changed["workspace_root"] = WORKSPACE + "\n--config\nother.toml"
+    put(WORKSPACE + "/m.json", json.dumps(changed))
+    upgrade(36, first, "  at @/m.json\n", "  cause: `workspace_root` has a line end\n", help_line)
+    changed = workspace()
     changed["packages"][2]["manifest_path"] = WORKSPACE + "/m1/other.toml"
     put(WORKSPACE + "/m.json", json.dumps(changed))
     upgrade(37, "Error: Two members share the folder %s/m1" % WORKSPACE, "  at @/m.json\n")

@@ -1,5 +1,5 @@
 -- The workspace in the output of `cargo metadata` (The Cargo Book, "cargo metadata", JSON format).
-use Rattle.std.specs.Prelude.{◌≡◌, ℕ, List, [], ◌∷◌, Option, Some, None, option_map, option_and_then, Bool, true, codes, nat_eq}
+use Rattle.std.specs.Prelude.{◌≡◌, ℕ, List, [], ◌∷◌, Option, Some, None, option_map, option_and_then, Bool, true, ◌&&◌, not, codes, nat_eq}
 use Rattle.std.specs.List.{AllZip, filter, list_any, starts_with}
 use Rattle.std.specs.Str.{IsUtf8, bytes_eq}
 use Rattle.semver.specs.Parse.{Parts}
@@ -42,6 +42,10 @@ IsText d text = as_str d ≡ Some text
 -- a path that begins with `/`
 abbrev pub is_absolute : List ℕ → Bool
 is_absolute path = starts_with nat_eq path (codes "/")
+
+-- a path that begins with `/` and has no line end: a call of cargo is stored as lines, and names the root (own)
+abbrev pub is_root_path : List ℕ → Bool
+is_root_path path = is_absolute path && not (list_any (λ byte. nat_eq byte 10) path)
 
 -- ---- packages
 
@@ -94,7 +98,7 @@ pub record WorkspaceModel : Type 0 where
 -- the workspace of a JSON value (The Cargo Book, "cargo metadata", workspace_root, workspace_members)
 pub record IsWorkspaceValue (d : Data) (w : WorkspaceModel) : Type 0 where
   pub root : text_at (codes "workspace_root") d ≡ Some w.root
-  pub absolute : is_absolute w.root ≡ true
+  pub absolute : is_root_path w.root ≡ true
   pub listed : List Data
   pub has_members : values_at (codes "workspace_members") d ≡ Some listed
   pub ids : List (List ℕ)

@@ -1,13 +1,13 @@
 //! Reads the members of a package in the output of `cargo metadata`.
-ghost use Rattle.std.specs.Prelude.{◌≡◌, None, Some, true, IfErr, IfOk, MatchResult, option_map, string_bytes};
+ghost use Rattle.std.specs.Prelude.{◌≡◌, None, Some, true, codes, IfErr, IfOk, MatchResult, option_map, string_bytes};
 ghost use Rattle.edit_base.specs.Errors.{IsMemory};
-ghost use Rattle.edit_metadata.specs.Metadata.{is_absolute, maybe_text_at, rust_version_in_value, text_at, version_in_value};
+ghost use Rattle.edit_metadata.specs.Metadata.{is_absolute, is_root_path, maybe_text_at, rust_version_in_value, text_at, version_in_value};
 ghost use Rattle.edit_metadata.specs.Reading.{IsReadingError};
 ghost use Rattle.edit_version.specs.RustVersions.{numbers_of};
 ghost use Rattle.semver.specs.Identifiers.{parts_of};
 ghost use Rattle.serde_json.specs.View.{view};
 
-use crate::members::{is_absolute, maybe_text_at, text_at};
+use crate::members::{is_absolute, is_root_path, maybe_text_at, text_at};
 use edit_base::{CargoResult, Error};
 use edit_version::{RustVersion, read_rust_version, read_version};
 use semver::Version;
@@ -33,6 +33,22 @@ pub(crate) fn path(alloc: Global, value: &Value, name: &str) -> CargoResult<Stri
 {
     let path = text(alloc, value, name)?;
     if !is_absolute(path.as_str()) {
+        return Err(Error::Metadata);
+    }
+    Ok(path)
+}
+
+/// The string `workspace_root`, which has to be an absolute path without a line end; otherwise
+/// `Error::Metadata`.
+pub(crate) fn root_path(alloc: Global, value: &Value) -> CargoResult<String>
+    ensures { MatchResult result
+        (λ s. (text_at (codes "workspace_root") (view value.now) ≡ Some (string_bytes s))
+        × (is_root_path (string_bytes s) ≡ true))
+        (IsReadingError (λ t. (text_at (codes "workspace_root") (view value.now) ≡ Some t)
+        × (is_root_path t ≡ true))) }
+{
+    let path = text(alloc, value, "workspace_root")?;
+    if !is_root_path(path.as_str()) {
         return Err(Error::Metadata);
     }
     Ok(path)

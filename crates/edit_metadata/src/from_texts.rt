@@ -9,7 +9,7 @@ ghost use Rattle.edit_metadata.specs.Workspaces.{package_view, workspace_view};
 ghost use Rattle.edit_version.specs.RustVersions.{numbers_of, rust_of};
 ghost use Rattle.serde_json.specs.Data.{Data};
 
-use crate::members::is_absolute;
+use crate::members::{is_absolute, is_root_path};
 use crate::package_texts::PackageTexts;
 use crate::workspace::{Package, Workspace};
 use crate::workspace_texts::{WorkspaceTexts, read_metadata};
@@ -121,7 +121,7 @@ fn workspace_of(alloc: Global, texts: &WorkspaceTexts<'_>) -> CargoResult<Option
     let Some(root) = texts.root else {
         return Ok(None);
     };
-    if !is_absolute(root) {
+    if !is_root_path(root) {
         return Ok(None);
     }
     let Some(ids) = &texts.ids else {

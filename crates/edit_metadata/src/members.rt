@@ -1,6 +1,6 @@
 //! Reads the members of JSON objects.
 ghost use Rattle.std.specs.Prelude.{◌≡◌, map, option_map};
-ghost use Rattle.edit_metadata.specs.Metadata.{is_absolute, maybe_text_at, text_at, values_at};
+ghost use Rattle.edit_metadata.specs.Metadata.{is_absolute, is_root_path, maybe_text_at, text_at, values_at};
 ghost use Rattle.serde_json.specs.View.{view};
 
 use serde_json::Value;
@@ -45,4 +45,11 @@ pub(crate) fn is_absolute(path: &str) -> bool
     ensures { result ≡ is_absolute path.now }
 {
     path.starts_with('/')
+}
+
+/// Whether a path begins with `/` and has no line end.
+pub(crate) fn is_root_path(path: &str) -> bool
+    ensures { result ≡ is_root_path path.now }
+{
+    is_absolute(path) && !path.as_bytes().contains(&b'\n')
 }

@@ -9,7 +9,7 @@ ghost use Rattle.edit_version.specs.Laws.{IsReadable};
 ghost use Rattle.semver.specs.Identifiers.{parts_of};
 ghost use Rattle.serde_json.specs.View.{view};
 
-use crate::fields::path;
+use crate::fields::root_path;
 use crate::folders::check_folders;
 use crate::from_texts::read_without_tree;
 use crate::members::values_at;
@@ -49,7 +49,7 @@ fn workspace_from_value(alloc: Global, value: &Value) -> CargoResult<Workspace>
     ensures { MatchResult result (λ w. IsWorkspaceValue (view value.now) (workspace_view w))
         (IsReadingError (IsWorkspaceValue (view value.now))) }
 {
-    let root = path(alloc, value, "workspace_root")?;
+    let root = root_path(alloc, value)?;
     let Some(ids) = values_at(value, "workspace_members") else {
         return Err(Error::Metadata);
     };
@@ -88,9 +88,10 @@ fn read_json(alloc: Global, json: &[u8]) -> CargoResult<Workspace>
 impl Workspace {
     /// Parses the output of `cargo metadata`.
     ///
-    /// It is an object with an absolute `workspace_root`, the ids `workspace_members`, and `packages`, each
-    /// with `name`, `id`, an absolute `manifest_path` and a valid `version`; `source` and `rust_version` may
-    /// be absent or null, and an invalid `rust_version` counts as absent. Other members are ignored.
+    /// It is an object with an absolute `workspace_root` without a line end, the ids `workspace_members`, and
+    /// `packages`, each with `name`, `id`, an absolute `manifest_path` and a valid `version`; `source` and
+    /// `rust_version` may be absent or null, and an invalid `rust_version` counts as absent. Other members
+    /// are ignored.
     /// `Error::Metadata` where the output has another form, and `Error::FolderTwice` where the manifests of
     /// two members are in one folder.
     pub fn read(alloc: Global, json: &[u8]) -> CargoResult<Workspace>

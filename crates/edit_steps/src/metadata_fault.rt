@@ -26,6 +26,15 @@ fn is_path(value: &Value, name: &str) -> bool {
     }
 }
 
+/// What is invalid in the root of a workspace; `None` where nothing is.
+fn root_fault(metadata: &Value) -> Option<&'static str> {
+    match text_at(metadata, "workspace_root") {
+        Some(root) if root.contains('\n') => Some("`workspace_root` has a line end"),
+        Some(root) if root.starts_with('/') => None,
+        _ => Some("`workspace_root` is not an absolute path"),
+    }
+}
+
 /// Whether the value of a key is a string, or the key is absent.
 fn is_text_or_none(value: &Value, name: &str) -> bool {
     match value.get(name) {
@@ -80,8 +89,8 @@ fn packages_fault(alloc: Global, packages: &[Value]) -> Option<String> {
 
 /// What is invalid in metadata that are valid JSON; `None` where that is not found.
 fn value_fault(alloc: Global, metadata: &Value) -> Option<String> {
-    if !is_path(metadata, "workspace_root") {
-        return String::from_str(alloc, "`workspace_root` is not an absolute path").ok();
+    if let Some(fault) = root_fault(metadata) {
+        return String::from_str(alloc, fault).ok();
     }
     let members = match metadata.get("workspace_members") {
         Some(members) => members.as_array(),

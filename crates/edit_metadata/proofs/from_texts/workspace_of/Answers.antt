@@ -2,7 +2,7 @@ use Rattle.std.proofs.Common.{◌≡◌, ℕ, List, map, rules, Some, true, subs
 use Rattle.std.specs.List.{AllZip}
 use Rattle.std.specs.Prelude.{IfSome, codes}
 use Rattle.serde_json.specs.Data.{Data}
-use Rattle.edit_metadata.specs.Metadata.{IsPackageValue, is_absolute, is_listed, text_at}
+use Rattle.edit_metadata.specs.Metadata.{IsPackageValue, is_listed, is_root_path, text_at}
 use Rattle.edit_metadata.specs.Reading.{holds}
 use Rattle.edit_metadata.specs.Texts.{HasMemberIds, HasPackageTexts, HasPackages}
 use Rattle.edit_metadata.specs.Workspaces.{package_view, packages_view}
@@ -22,10 +22,10 @@ returns-clause-ok c = λ d shows.
     → AllZip (IsPackageValue (holds set)) ds (map package_view v.items))) c.in-Some-2.is c.in_ok-packages.ensures.ok in
     let shown = subst (λ ts. AllZip HasPackageTexts said.0 ts) (sym c.as_slice-2.ensures.value) said.2 in
     let copied : string_bytes c.in_ok-from_str.field-0 ≡ c.in-Some.root.now = c.in_ok-from_str.ensures.ok in
-    let absolute : is_absolute c.in-Some.root.now ≡ true = search rules in
+    let absolute : is_root_path c.in-Some.root.now ≡ true = search rules in
     record {
       root = root ∙ ap Some (sym copied);
-      absolute = ap is_absolute copied ∙ absolute;
+      absolute = ap is_root_path copied ∙ absolute;
       listed = listed.0;
       has_members = listed.1;
       ids = ids;
