@@ -23,10 +23,15 @@ fn is_among(texts: &[String], text: &str) -> bool {
     texts.iter().any(|other| other.as_str() == text)
 }
 
+/// Whether a selection has all members but the excluded ones, and not only named ones.
+fn selects_all(selection: &Selection) -> bool {
+    selection.workspace || selection.packages.is_empty()
+}
+
 /// Whether a selection contains a package.
 pub(crate) fn is_package_selected(selection: &Selection, package: &Package) -> bool {
     let name = package.name.as_str();
-    if selection.workspace || selection.packages.is_empty() {
+    if selects_all(selection) {
         return package.member && !is_among(&selection.exclude, name);
     }
     package.member && is_among(&selection.packages, name)
@@ -54,10 +59,13 @@ fn lacks_version(alloc: Global, manifest: &Manifest) -> bool {
     }
 }
 
-/// The help that names a member to exclude.
-fn help_for(alloc: Global, package: &Package) -> Option<String> {
+/// The help that says how a member is left out: by `--exclude`, or by no `-p` if members are named.
+fn help_for(alloc: Global, selection: &Selection, package: &Package) -> Option<String> {
     let name = package.name.as_str();
-    format!(in alloc; "leave this package out by `--exclude {name}`").ok()
+    if selects_all(selection) {
+        return format!(in alloc; "leave this package out by `--exclude {name}`").ok();
+    }
+    format!(in alloc; "leave out `-p {name}`").ok()
 }
 
 /// The first selected package that has no version to set.
@@ -78,7 +86,7 @@ pub(crate) fn without_version(
             return Some(Explanation {
                 place: String::from_str(alloc, input.path.as_str()).ok(),
                 cause: format!(in alloc; "the package `{name}` has no `package.version`").ok(),
-                help: help_for(alloc, package),
+                help: help_for(alloc, selection, package),
             });
         }
     }
@@ -91,18 +99,42 @@ fn version_position(alloc: Global, input: &Input, document: &Document) -> Option
     entry_position(alloc, input, document, &place)
 }
 
-/// Explains an error of a package's version; `None` where the package inherits it from the workspace.
-fn version_fault(alloc: Global, package: &Package, inputs: &[Input]) -> Option<Explanation> {
+/// Explains an error of the version that a package inherits: where no manifest of the workspace has it, it is
+/// the one of the metadata.
+fn inherited_fault(alloc: Global, package: &Package, input: &Input) -> Explanation {
+    let (name, version) = (package.name.as_str(), &package.version);
+    let cause = format!(in alloc;
+        "the package `{name}` inherits its version, which is {version} in the metadata"
+    );
+    Explanation {
+        place: String::from_str(alloc, input.path.as_str()).ok(),
+        cause: cause.ok(),
+        help: None,
+    }
+}
+
+/// Explains an error of a package's version, or of the version of the workspace that it inherits.
+fn version_fault(
+    alloc: Global,
+    error: &Error,
+    target: &TargetVersion,
+    selection: &Selection,
+    package: &Package,
+    inputs: &[Input],
+) -> Option<Explanation> {
     let input = input_of(alloc, package, inputs)?;
     let manifest = Manifest::read_bytes(alloc, &input.bytes).ok()?;
     if manifest.version_is_inherited() {
-        return None;
+        return match find_rejected_root(alloc, error, target, selection, inputs) {
+            Some(found) => Some(found),
+            None => Some(inherited_fault(alloc, package, input)),
+        };
     }
     let (name, version) = (package.name.as_str(), &package.version);
     Some(Explanation {
         place: version_position(alloc, input, &manifest.document),
         cause: format!(in alloc; "the package `{name}` has the version {version}").ok(),
-        help: help_for(alloc, package),
+        help: help_for(alloc, selection, package),
     })
 }
 
@@ -122,7 +154,7 @@ pub(crate) fn find_rejected_version(
         }
         if let Err(own) = target.bump(alloc, &package.version, metadata) {
             if is_same(alloc, &own, error) {
-                return version_fault(alloc, package, inputs);
+                return version_fault(alloc, error, target, selection, package, inputs);
             }
         }
     }
