@@ -1,7 +1,8 @@
 # shellcheck shell=sh disable=SC2154
-# Sourced by the scripts in bin/: resolves the workspace after its manifests were written. It uses the
-# variables `tool` (the program), `cargo`, `room` (the folder of this run) and `manifest` of these scripts,
-# their functions `workspace`, `shown` and `die`, and process.sh.
+# Sourced by the scripts in bin/: gives manifests back that killed runs had moved aside, and resolves the
+# workspace after its manifests were written. It uses the variables `tool` (the program), `cargo`, `room` (the
+# folder of this run) and `manifest` of these scripts, their functions `workspace`, `shown` and `die`, and
+# process.sh.
 
 # Output of cargo, without colors.
 escape=$(printf '\033')
@@ -11,6 +12,30 @@ step=Updating subject=Cargo.lock
 last_said() {
     set -- "$(without_colors "$room/said" | tail -n 1 | sed 's/^ *//' | shown)"
     printf '%s\n' "$subject${1:+: $1}"
+}
+
+# Gives manifests back that runs of cargo-edit had moved aside when they were killed: those below the
+# uppermost folder that has a manifest, from the folder of the manifest on. The status is 0 if one is back.
+give_back() {
+    top=$(dirname -- "${manifest:-./Cargo.toml}") && top=$(cd -- "$top" 2> /dev/null && pwd) || return 1
+    above=$top
+    while [ "$above" != / ]; do
+        above=$(dirname -- "$above")
+        [ ! -f "$above/Cargo.toml" ] || top=$above
+    done
+    find "$top" -name target -prune -o -type f -name '.cargo-edit.*-*.*.was' -print > "$room/aside" 2> /dev/null
+    set -- 1
+    while IFS= read -r aside; do
+        name=${aside##*/}
+        process=${name#.cargo-edit.} process=${process%%-*} name=${name#.cargo-edit.*-*.}
+        place=${aside%/*}/${name%.was}
+        if [ ! -e "$place" ] && ! kill -0 "$process" 2> /dev/null && ln -- "$aside" "$place"; then
+            rm -f -- "$aside"
+            echo "note: $place is back: a run that was killed had moved it aside" | shown >&2
+            set -- 0
+        fi
+    done < "$room/aside"
+    return "$1"
 }
 
 # Runs a command that calls cargo. The standard error of cargo goes to ROOM/said, and is printed at the end;

@@ -1,8 +1,9 @@
 #!/usr/bin/env python3
 """killed.py PROGRAM [KILLS]: the program is killed 100 times (or KILLS times) at varying moments while it writes the 30
-manifests of a workspace, and what it leaves stays. Each manifest is always the old or the new text whole, those that are
-new are the first ones in their order, and most kills leave all old or all new; files of killed runs do not pile up. An
-undisturbed run then ends as ever, and never writes in place."""
+manifests of a workspace, and what it leaves stays. Each manifest is always the old or the new text whole (one may have been
+moved aside that moment, and a dry run gives it back), those that are new are the first ones in their order, and most kills
+leave all old or all new; files of killed runs do not pile up. An undisturbed run then ends as ever, and never writes in
+place."""
 
 import json
 import os
@@ -69,6 +70,12 @@ class Manifests:
         front = next((at for at, text in enumerate(texts) if text != self.new), len(texts))
         return front if all(text == self.old for text in texts[front:]) else None
 
+    def given_back(self):
+        """Whether all manifests are there, at the latest behind a dry run, where one had been moved aside."""
+        if any(not path.exists() for path in self.paths):
+            subprocess.run([*self.args, "--dry-run"], capture_output=True, check=False)
+        return all(path.exists() for path in self.paths)
+
     def start(self):
         return subprocess.Popen(self.args, stdout=subprocess.DEVNULL, stderr=subprocess.DEVNULL)
 
@@ -95,6 +102,9 @@ def kills(manifests, usual, wanted):
             break
         manifests.reset()
         killed += kill(manifests, usual)
+        if not manifests.given_back():
+            yield f"kill {turn}: a manifest is missing"
+            return
         raised = manifests.raised()
         if raised is None:
             yield f"kill {turn}: a manifest is cut, or new before another one"

@@ -90,7 +90,8 @@ def mounted(place):
 def own_files(place):
     """Files of a user under names like those of temporary ones stay; what a killed run left does not."""
     place.manifest.write_bytes(NEW)
-    precious = [place.folder / name for name in ("cargo-edit.new-0", MADE + "999999-0.new", MADE + "999999-1.tmp", MADE + "old")]
+    names = ("cargo-edit.new-0", MADE + "999999-0.new", MADE + "999999-1.tmp", MADE + "old", MADE + "999999-1.Cargo.toml.was")
+    precious = [place.folder / name for name in names]
     for path in precious:
         path.write_text("precious")
     left = place.folder / (MADE + "999999-7.new")

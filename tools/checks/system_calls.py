@@ -1,9 +1,10 @@
 #!/usr/bin/env python3
-"""system_calls.py PROGRAM: each system call of an `upgrade` and of a `set-version` over three members is failed in turn,
-by `strace -e inject`, and each is the moment of a kill. No manifest is ever cut. A run with a failed call ends with
-status 0 and each manifest new, or with status 1 (2 where there is no current folder) and an error, and only the manifests
-that were renamed so far, the first ones, are new. After a kill the next run leaves no file of the killed one. In an
-undisturbed run every new file is flushed to the disk before the first of them is moved to its place."""
+"""system_calls.py PROGRAM: each system call of an `upgrade` and of a `set-version` over three members is failed in turn, by
+`strace -e inject`, and each is the moment of a kill. No manifest is ever cut. A run with a failed call ends with status 0
+and each manifest new, or with status 1 (2 where there is no current folder) and an error, and only the manifests that were
+moved so far, the first ones, are new. After a kill the next run leaves no file of the killed one, and a manifest that had
+just been moved aside comes back. In an undisturbed run every new file is flushed to the disk before the first of them is
+moved to its place."""
 
 import collections
 import concurrent.futures
@@ -33,12 +34,12 @@ def calls(args):
 def unflushed(args, members):
     """What is wrong with how a run makes its new files: each is flushed before the first is moved to its place, and there is one
     for each manifest."""
-    traced = run(["strace", "-f", "-y", "-e", "trace=fsync,rename,renameat,renameat2", "-o", "/dev/stdout", *args])
+    traced = run(["strace", "-f", "-y", "-e", "trace=fsync,link,linkat,rename,renameat,renameat2", "-o", "/dev/stdout", *args])
     flushed, moved = set(), 0
     for line in traced.stdout.decode(errors="replace").splitlines():
         if found := re.search(r"fsync\(\d+<[^>]*/([^/>]*\.tmp)>\) += 0", line):
             flushed.add(found[1])
-        elif found := re.search(r'rename\w*\([^"]*"[^"]*/([^"/]*\.tmp)",', line):
+        elif found := re.search(r'(?:link|rename)\w*\([^"]*"[^"]*/([^"/]*\.tmp)",', line):
             moved += 1
             if found[1] not in flushed or len(flushed) < members:
                 yield f"the new file {found[1]} is moved where {len(flushed)} of {members} are flushed"
@@ -82,7 +83,7 @@ def failed(workspace, args, new, share, counts):
             # (a failure after the last rename is reported, and every manifest is new)
             if not is_front(state) or not (reported or (done.returncode == 0 and state == "111")):
                 yield f"{error} of {call}: status {done.returncode}, {state}, {done.stderr[-200:]!r}"
-            if state not in ("000", "111") and not call[0].startswith("rename"):
+            if state not in ("000", "111") and not call[0].startswith(("rename", "link")):
                 yield f"{error} of {call}, which moves no file: {state}, {done.stderr[-200:]!r}"
             if workspace.left():
                 run(args)
@@ -95,6 +96,10 @@ def killed(workspace, args, new, share, counts):
     for call in share:
         workspace.reset()
         inject(args, call, "signal=KILL")
+        counts["killed", f"{len(workspace.missing())} moved aside"] += 1
+        yield from (f"a kill at {call}: {text}" for text in workspace.given_back())
+        if workspace.missing():
+            continue
         state = workspace.state(workspace.old, new)
         counts["killed", state] += 1
         if not is_front(state):

@@ -69,6 +69,24 @@ class Workspace:
         return "".join(next((str(number) for number, text in enumerate(texts) if path.read_bytes() == text[at]), "x")
                        for at, path in enumerate(self.paths))
 
+    def missing(self):
+        """The manifests that are missing, each with the texts of the files beside it."""
+        return [(path, [beside.read_bytes() for beside in path.parent.iterdir()]) for path in self.paths if not path.exists()]
+
+    def given_back(self):
+        """What is wrong after a kill that came while a manifest was moved: its old text stands beside it, and a dry run gives
+        it back."""
+        missing = self.missing()
+        if len(missing) > 1:
+            yield f"{len(missing)} manifests are missing"
+        for path, beside in missing:
+            if self.old[self.paths.index(path)] not in beside:
+                yield f"the text of {path} is gone"
+        if missing:
+            done = run([*self.upgrade(), "--dry-run"])
+            if done.returncode or self.missing():
+                yield f"a dry run gives no manifest back: {done.stderr!r}"
+
 
 def run(args, by=(), **options):
     """A run, with what it prints."""

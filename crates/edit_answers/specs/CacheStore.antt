@@ -1,5 +1,5 @@
 -- The model of the store of the files of a cache.
-use Rattle.std.specs.Prelude.{ℕ, List, None, false, map, string_bytes}
+use Rattle.std.specs.Prelude.{ℕ, List, [], None, false, map, string_bytes}
 use Rattle.edit_store.specs.Store.{StoreView}
 use Rattle.edit_answers.specs.declared.cache_store.CacheStore.{CacheStore}
 
@@ -17,6 +17,7 @@ cache_view store = record {
   tells = false;
   file_at = λ _. None;
   writes = cache_writes store;
+  steps = [];
   faults = cache_faults store;
   stage_errors = 0;
 }

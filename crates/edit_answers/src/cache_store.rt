@@ -150,6 +150,21 @@ impl<R: Files<File = File> + Alloc<A = Global> + Drop> Store for CacheStore<R> {
         }
     }
 
+    /// Does nothing: `write` puts a whole file in place of an old one, which anybody may have changed.
+    fn stage(&mut self, _alloc: Global, _path: &str, _bytes: &[u8]) -> CargoResult<()> {
+        Ok(())
+    }
+
+    fn flush(&mut self, _alloc: Global, _path: &str) -> CargoResult<()> {
+        Ok(())
+    }
+
+    fn verify(&mut self, _alloc: Global, _path: &str) -> CargoResult<()> {
+        Ok(())
+    }
+
+    fn unstage(&mut self, _alloc: Global) {}
+
     fn faults(&self) -> u64 {
         self.failed
     }

@@ -1,12 +1,13 @@
 -- The files while outputs are written one by one.
 use Rattle.std.proofs.Common.{◌≡◌, ◌≢◌, ℕ, ◌+◌, ◌<◌, ◌≤◌, List, [], ◌∷◌, ◌++◌, true, length, map, take, get_or, append-nil, append_assoc, ap, inl, inr, refl, sym, ◌∙◌, arith, subst}
-use Rattle.std.specs.Prelude.{Result, Ok, Err, OnErr}
+use Rattle.std.specs.Prelude.{Result, Ok, Err, OnErr, OnOk}
 use Rattle.std.specs.List.{All}
 use Rattle.std.proofs.lemmas.List.{get_or_default, get_or-drop, get_or-take, length-drop, length-take, map_more}
 use Rattle.std.proofs.lemmas.List.Elements.{All-more}
-use Rattle.edit_report.specs.Applied.{AreWritten, AreWrittenOnce, HasStopped, HaveDistinctPaths, IsWhole, KeepsOthers, path_of}
+use Rattle.edit_report.specs.Applied.{ArePrepared, AreWritten, AreWrittenOnce, HasStopped, HaveDistinctPaths, IsWhole, KeepsOthers, path_of, steps_at}
 use Rattle.edit_report.specs.declared.output.Output.{Output}
-use Rattle.edit_store.specs.Store.{Files, IsWrittenAtMostOnce, IsWrittenOnce, SameBut, SameFiles, StoreView}
+use Rattle.edit_store.specs.Store.{AreStepsTaken, Files, IsStepTaken, IsWrittenAtMostOnce, IsWrittenOnce, SameBut, SameFiles, StepView, StoreView}
+use Rattle.edit_store.specs.declared.store.StepKind.{StepKind}
 
 -- what holds in any case holds of an error
 pub on_failure : {T E : Type 0} (r : Result T E) (P : Type 0) → P → OnErr r P
@@ -17,6 +18,61 @@ on_failure (Err e) P p = p
 pub on_failure_more : {T E : Type 0} (r : Result T E) (P Q : Type 0) → (P → Q) → OnErr r P → OnErr r Q
 on_failure_more (Ok x) P Q f p = tt
 on_failure_more (Err e) P Q f p = f p
+
+-- what follows where a call succeeds
+pub on_success_more : {T E : Type 0} (r : Result T E) (P Q : Type 0) → (P → Q) → OnOk r P → OnOk r Q
+on_success_more (Ok x) P Q f p = f p
+on_success_more (Err e) P Q f p = tt
+
+-- no step
+pub steps_none : (old : StoreView) → AreStepsTaken [] old old
+steps_none old = λ _. sym (append-nil old.steps)
+
+-- the same step at one output more
+pub steps_more : (kind : StepKind) (outputs : List Output) (i : ℕ) (d : Output) (old mid new : StoreView)
+    → i < length outputs → mid.tells ≡ old.tells
+    → AreStepsTaken (steps_at kind (take i outputs)) old mid
+    → IsStepTaken kind (path_of (get_or outputs i d)) mid new
+    → AreStepsTaken (steps_at kind (take (i + 1) outputs)) old new
+steps_more kind outputs i d old mid new within tells before last = λ t.
+    let at : Output → StepView = λ o. record { kind = kind; path = path_of o } in
+    last (tells ∙ t)
+    ∙ ap (λ s. s ++ at (get_or outputs i d) ∷ []) (before t)
+    ∙ append_assoc old.steps (map at (take i outputs)) (at (get_or outputs i d) ∷ [])
+    ∙ ap (λ s. old.steps ++ s) (sym (map_more at outputs i d within))
+
+-- steps after other steps
+pub steps_after : (first second : List StepView) (old mid new : StoreView) → mid.tells ≡ old.tells
+    → AreStepsTaken first old mid → AreStepsTaken second mid new
+    → AreStepsTaken (first ++ second) old new
+steps_after first second old mid new tells before then = λ t.
+    then (tells ∙ t) ∙ ap (λ s. s ++ second) (before t) ∙ append_assoc old.steps first second
+
+-- before the first output is prepared
+pub prepared_none : (kind : StepKind) (old : StoreView) → ArePrepared kind [] old old
+prepared_none kind old = record {
+  tells = refl;
+  files = λ _. refl;
+  writes = refl;
+  later = omega arith;
+  ready = refl;
+  steps = steps_none old;
+}
+
+-- one output more is prepared
+pub prepared_more : (kind : StepKind) (outputs : List Output) (i : ℕ) (d : Output) (old mid new : StoreView)
+    → i < length outputs → ArePrepared kind (take i outputs) old mid → new.tells ≡ mid.tells
+    → SameFiles mid.file_at new.file_at → new.writes ≡ mid.writes → mid.faults ≤ new.faults
+    → new.stage_errors ≡ mid.stage_errors → IsStepTaken kind (path_of (get_or outputs i d)) mid new
+    → ArePrepared kind (take (i + 1) outputs) old new
+prepared_more kind outputs i d old mid new within before tells files writes later ready last = record {
+  tells = tells ∙ before.tells;
+  files = λ path. files path ∙ before.files path;
+  writes = writes ∙ before.writes;
+  later = omega (arith, later, before.later);
+  ready = ready ∙ before.ready;
+  steps = steps_more kind outputs i d old mid new within before.tells before.steps last;
+}
 
 -- writing stopped before the first output where nothing is written
 pub stopped_early : (outputs : List Output) (old new : StoreView) → 0 < length outputs

@@ -2,7 +2,9 @@
 use Rattle.std.specs.Prelude.{◌≡◌, ◌≢◌, ℕ, ◌+◌, ◌<◌, ◌≤◌, List, ◌++◌, Some, true, length, map, take, drop, string_bytes}
 use Rattle.std.specs.List.{All, AllPairs}
 use Rattle.edit_report.specs.declared.output.Output.{Output}
-use Rattle.edit_store.specs.Store.{Files, StoreView}
+use Rattle.edit_store.specs.Store.{AreStepsTaken, Files, SameFiles, StepView, StoreView}
+use Rattle.edit_store.specs.declared.store.StepKind.{StepKind}
+use Rattle.edit_store.specs.declared.store.StepKind.TheVariants as step
 
 -- the path of an output
 abbrev pub path_of : Output → List ℕ
@@ -47,3 +49,27 @@ pub record HasStopped (outputs : List Output) (old new : StoreView) : Type 0 whe
   pub whole : old.tells ≡ true → All (IsWhole new.file_at) (take at outputs)
   pub untouched : All (IsUntouched old.file_at new.file_at) (drop (at + 1) outputs)
   pub others : KeepsOthers (take (at + 1) outputs) old.file_at new.file_at
+
+-- one step of this kind for each output, in order (own)
+abbrev pub steps_at : StepKind → List Output → List StepView
+steps_at kind outputs = map (λ o. record { kind = kind; path = path_of o }) outputs
+
+-- the steps that make outputs ready: all are staged, and then all are flushed to the disk (own)
+abbrev pub steps_to_prepare : List Output → List StepView
+steps_to_prepare outputs = steps_at step.Stage outputs ++ steps_at step.Flush outputs
+
+-- the steps that write outputs: all are made ready, then all are compared with what was read, and only then
+-- the first one is written (own)
+abbrev pub steps_to_write : List Output → List StepView
+steps_to_write outputs =
+    steps_to_prepare outputs ++ (steps_at step.Verify outputs ++ steps_at step.Write outputs)
+
+-- outputs were taken through a step that prepares their writes: no file is changed, and no call has failed
+-- (own)
+pub record ArePrepared (kind : StepKind) (outputs : List Output) (old new : StoreView) : Type 0 where
+  pub tells : new.tells ≡ old.tells
+  pub files : SameFiles old.file_at new.file_at
+  pub writes : new.writes ≡ old.writes
+  pub later : old.faults ≤ new.faults
+  pub ready : new.stage_errors ≡ old.stage_errors
+  pub steps : AreStepsTaken (steps_at kind outputs) old new

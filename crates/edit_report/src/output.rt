@@ -1,8 +1,9 @@
 //! Writes outputs to their files.
-ghost use Rattle.std.specs.Prelude.{◌≡◌, ◌≢◌, ◌<◌, OnErr, OnOk, length, true};
+ghost use Rattle.std.specs.Prelude.{◌≡◌, ◌≢◌, ◌<◌, [], OnErr, OnOk, length, true};
 ghost use Rattle.edit_base.specs.declared.errors.DeviceCall.TheVariants as call;
-ghost use Rattle.edit_report.specs.Applied.{AreWritten, HasStopped, HaveDistinctPaths, IsWhole, path_of};
-ghost use Rattle.edit_store.specs.Store.{HasCause, IsWrittenAtMostOnce, IsWrittenOnce, SameBut, SameFiles};
+ghost use Rattle.edit_report.specs.Applied.{AreWritten, HasStopped, HaveDistinctPaths, IsWhole, path_of, steps_at, steps_to_write};
+ghost use Rattle.edit_store.specs.Store.{AreStepsTaken, HasCause, IsStepTaken, IsWrittenAtMostOnce, IsWrittenOnce, SameBut, SameFiles};
+ghost use Rattle.edit_store.specs.declared.store.StepKind.TheVariants as step;
 
 use edit_base::CargoResult;
 use edit_store::Store;
@@ -23,6 +24,8 @@ fn stage_all<S: Store>(alloc: Global, outputs: &[Output], store: &mut S) -> Carg
     ensures cause { HasCause call.Write (S.view store.old) (S.view store.new) result }
     ensures ready { OnOk result ((S.view store.new).stage_errors ≡ (S.view store.old).stage_errors) }
     ensures some { OnErr result (0 < length outputs.now) }
+    ensures steps { OnOk result (AreStepsTaken (steps_at step.Stage outputs.now)
+        (S.view store.old) (S.view store.new)) }
 {
     for output in outputs {
         store.stage(alloc, output.path.as_str(), output.bytes.as_slice())?;
@@ -38,6 +41,8 @@ fn flush_all<S: Store>(alloc: Global, outputs: &[Output], store: &mut S) -> Carg
     ensures cause { HasCause call.Write (S.view store.old) (S.view store.new) result }
     ensures ready { OnOk result ((S.view store.new).stage_errors ≡ (S.view store.old).stage_errors) }
     ensures some { OnErr result (0 < length outputs.now) }
+    ensures steps { OnOk result (AreStepsTaken (steps_at step.Flush outputs.now)
+        (S.view store.old) (S.view store.new)) }
 {
     for output in outputs {
         store.flush(alloc, output.path.as_str())?;
@@ -53,6 +58,8 @@ fn verify_all<S: Store>(alloc: Global, outputs: &[Output], store: &mut S) -> Car
     ensures cause { HasCause call.Write (S.view store.old) (S.view store.new) result }
     ensures ready { OnOk result ((S.view store.new).stage_errors ≡ (S.view store.old).stage_errors) }
     ensures some { OnErr result (0 < length outputs.now) }
+    ensures steps { OnOk result (AreStepsTaken (steps_at step.Verify outputs.now)
+        (S.view store.old) (S.view store.new)) }
 {
     for output in outputs {
         store.verify(alloc, output.path.as_str())?;
@@ -71,6 +78,8 @@ fn write_output<S: Store>(alloc: Global, output: &Output, store: &mut S) -> Carg
         (IsWrittenAtMostOnce (path_of output.now) (S.view store.old) (S.view store.new)) }
     ensures cause { HasCause call.Write (S.view store.old) (S.view store.new) result }
     ensures ready { (S.view store.new).stage_errors ≡ (S.view store.old).stage_errors }
+    ensures step { OnOk result (IsStepTaken step.Write (path_of output.now)
+        (S.view store.old) (S.view store.new)) }
 {
     store.write(alloc, output.path.as_str(), output.bytes.as_slice())
 }
@@ -83,6 +92,8 @@ fn write_all<S: Store>(alloc: Global, outputs: &[Output], store: &mut S) -> Carg
     ensures stopped { OnErr result (HasStopped outputs.now (S.view store.old) (S.view store.new)) }
     ensures cause { HasCause call.Write (S.view store.old) (S.view store.new) result }
     ensures ready { (S.view store.new).stage_errors ≡ (S.view store.old).stage_errors }
+    ensures steps { OnOk result (AreStepsTaken (steps_at step.Write outputs.now)
+        (S.view store.old) (S.view store.new)) }
 {
     for output in outputs {
         write_output(alloc, output, store)?;
@@ -99,6 +110,8 @@ fn stage_and_write<S: Store>(alloc: Global, outputs: &[Output], store: &mut S) -
     ensures staged { OnErr result ((S.view store.new).stage_errors ≢ (S.view store.old).stage_errors
         → SameFiles (S.view store.old).file_at (S.view store.new).file_at) }
     ensures cause { HasCause call.Write (S.view store.old) (S.view store.new) result }
+    ensures steps { OnOk result (AreStepsTaken (steps_to_write outputs.now)
+        (S.view store.old) (S.view store.new)) }
 {
     stage_all(alloc, outputs, store)?;
     flush_all(alloc, outputs, store)?;
@@ -118,6 +131,9 @@ pub fn apply<S: Store>(alloc: Global, outputs: &[Output], store: &mut S) -> Carg
     ensures staged { OnErr result ((S.view store.new).stage_errors ≢ (S.view store.old).stage_errors
         → SameFiles (S.view store.old).file_at (S.view store.new).file_at) }
     ensures cause { HasCause call.Write (S.view store.old) (S.view store.new) result }
+    ensures steps { OnOk result (AreStepsTaken (steps_to_write outputs.now)
+        (S.view store.old) (S.view store.new)) }
+    ensures discarded { OnErr result ((S.view store.old).tells ≡ true → (S.view store.new).steps ≡ []) }
 {
     match stage_and_write(alloc, outputs, store) {
         Ok(()) => Ok(()),

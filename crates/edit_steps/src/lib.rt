@@ -5,6 +5,7 @@
 mod excerpt;
 mod inputs;
 mod metadata_fault;
+mod output_error;
 mod outputs;
 mod paths;
 mod reread;

@@ -1,13 +1,15 @@
 //! The files that a plan changes.
-ghost use Rattle.std.specs.Prelude.{◌≡◌, ◌≢◌, ◌<◌, ◌≤◌, IfErr, OnErr, OnOk, length, true};
+ghost use Rattle.std.specs.Prelude.{◌≡◌, ◌≢◌, ◌<◌, ◌≤◌, [], IfErr, OnErr, OnOk, length, true};
 ghost use Rattle.edit_base.specs.declared.errors.DeviceCall.TheVariants as call;
-ghost use Rattle.edit_report.specs.Applied.{AreWritten, HasStopped, HaveDistinctPaths, IsWhole, path_of};
-ghost use Rattle.edit_store.specs.Store.{IsWrittenAtMostOnce, IsWrittenOnce, OnlyReads, IsCallError, SameBut, SameFiles};
+ghost use Rattle.edit_report.specs.Applied.{AreWritten, HasStopped, HaveDistinctPaths, IsWhole, path_of, steps_at, steps_to_prepare, steps_to_write};
+ghost use Rattle.edit_store.specs.Store.{AreStepsTaken, IsStepTaken, IsWrittenAtMostOnce, IsWrittenOnce, OnlyReads, IsCallError, SameBut, SameFiles};
+ghost use Rattle.edit_store.specs.declared.store.StepKind.TheVariants as step;
 
-use crate::run_error::{RunError, RunResult, at_file};
+use crate::output_error::at_output;
+use crate::run_error::{RunResult, at_file};
 use edit_report::Output;
 use edit_store::Store;
-use std::alloc::{AllocError, Global};
+use std::alloc::Global;
 
 /// Stages the write of an output. No file changes.
 fn stage_output<S: Store>(alloc: Global, output: &Output, files: &mut S) -> RunResult<()>
@@ -16,6 +18,8 @@ fn stage_output<S: Store>(alloc: Global, output: &Output, files: &mut S) -> RunR
     ensures files { SameFiles (S.view files.old).file_at (S.view files.new).file_at }
     ensures writes { (S.view files.new).writes ≡ (S.view files.old).writes }
     ensures ready { OnOk result ((S.view files.new).stage_errors ≡ (S.view files.old).stage_errors) }
+    ensures step { OnOk result (IsStepTaken step.Stage (path_of output.now)
+        (S.view files.old) (S.view files.new)) }
     ensures error { IfErr result
         (λ r. IsCallError call.Write (S.view files.old) (S.view files.new) r.error) }
 {
@@ -33,6 +37,8 @@ fn flush_output<S: Store>(alloc: Global, output: &Output, files: &mut S) -> RunR
     ensures files { SameFiles (S.view files.old).file_at (S.view files.new).file_at }
     ensures writes { (S.view files.new).writes ≡ (S.view files.old).writes }
     ensures ready { OnOk result ((S.view files.new).stage_errors ≡ (S.view files.old).stage_errors) }
+    ensures step { OnOk result (IsStepTaken step.Flush (path_of output.now)
+        (S.view files.old) (S.view files.new)) }
     ensures error { IfErr result
         (λ r. IsCallError call.Write (S.view files.old) (S.view files.new) r.error) }
 {
@@ -50,6 +56,8 @@ fn verify_output<S: Store>(alloc: Global, output: &Output, files: &mut S) -> Run
     ensures files { SameFiles (S.view files.old).file_at (S.view files.new).file_at }
     ensures writes { (S.view files.new).writes ≡ (S.view files.old).writes }
     ensures ready { OnOk result ((S.view files.new).stage_errors ≡ (S.view files.old).stage_errors) }
+    ensures step { OnOk result (IsStepTaken step.Verify (path_of output.now)
+        (S.view files.old) (S.view files.new)) }
     ensures error { IfErr result
         (λ r. IsCallError call.Write (S.view files.old) (S.view files.new) r.error) }
 {
@@ -68,6 +76,8 @@ fn stage_all<S: Store>(alloc: Global, outputs: &[Output], files: &mut S) -> RunR
     ensures writes { (S.view files.new).writes ≡ (S.view files.old).writes }
     ensures ready { OnOk result ((S.view files.new).stage_errors ≡ (S.view files.old).stage_errors) }
     ensures some { OnErr result (0 < length outputs.now) }
+    ensures steps { OnOk result (AreStepsTaken (steps_at step.Stage outputs.now)
+        (S.view files.old) (S.view files.new)) }
     ensures error { IfErr result
         (λ r. IsCallError call.Write (S.view files.old) (S.view files.new) r.error) }
 {
@@ -85,6 +95,8 @@ fn flush_all<S: Store>(alloc: Global, outputs: &[Output], files: &mut S) -> RunR
     ensures writes { (S.view files.new).writes ≡ (S.view files.old).writes }
     ensures ready { OnOk result ((S.view files.new).stage_errors ≡ (S.view files.old).stage_errors) }
     ensures some { OnErr result (0 < length outputs.now) }
+    ensures steps { OnOk result (AreStepsTaken (steps_at step.Flush outputs.now)
+        (S.view files.old) (S.view files.new)) }
     ensures error { IfErr result
         (λ r. IsCallError call.Write (S.view files.old) (S.view files.new) r.error) }
 {
@@ -102,6 +114,8 @@ fn make_ready<S: Store>(alloc: Global, outputs: &[Output], files: &mut S) -> Run
     ensures writes { (S.view files.new).writes ≡ (S.view files.old).writes }
     ensures ready { OnOk result ((S.view files.new).stage_errors ≡ (S.view files.old).stage_errors) }
     ensures some { OnErr result (0 < length outputs.now) }
+    ensures steps { OnOk result (AreStepsTaken (steps_to_prepare outputs.now)
+        (S.view files.old) (S.view files.new)) }
     ensures error { IfErr result
         (λ r. IsCallError call.Write (S.view files.old) (S.view files.new) r.error) }
 {
@@ -117,6 +131,8 @@ fn verify_all<S: Store>(alloc: Global, outputs: &[Output], files: &mut S) -> Run
     ensures writes { (S.view files.new).writes ≡ (S.view files.old).writes }
     ensures ready { OnOk result ((S.view files.new).stage_errors ≡ (S.view files.old).stage_errors) }
     ensures some { OnErr result (0 < length outputs.now) }
+    ensures steps { OnOk result (AreStepsTaken (steps_at step.Verify outputs.now)
+        (S.view files.old) (S.view files.new)) }
     ensures error { IfErr result
         (λ r. IsCallError call.Write (S.view files.old) (S.view files.new) r.error) }
 {
@@ -137,6 +153,8 @@ fn write_output<S: Store>(alloc: Global, output: &Output, files: &mut S) -> RunR
     ensures at_most_once { OnErr result
         (IsWrittenAtMostOnce (path_of output.now) (S.view files.old) (S.view files.new)) }
     ensures ready { (S.view files.new).stage_errors ≡ (S.view files.old).stage_errors }
+    ensures step { OnOk result (IsStepTaken step.Write (path_of output.now)
+        (S.view files.old) (S.view files.new)) }
     ensures error { IfErr result
         (λ r. IsCallError call.Write (S.view files.old) (S.view files.new) r.error) }
 {
@@ -144,51 +162,6 @@ fn write_output<S: Store>(alloc: Global, output: &Output, files: &mut S) -> RunR
     match files.write(alloc, path, output.bytes.as_slice()) {
         Ok(()) => Ok(()),
         Err(error) => Err(at_file(alloc, error, path, files.reason(alloc))),
-    }
-}
-
-/// The cause of an error, and which of the outputs were written before it.
-fn written_text(
-    alloc: Global,
-    reason: &str,
-    outputs: &[Output],
-    done: usize,
-) -> Result<String, AllocError> {
-    let count = outputs.len();
-    if done == 0 {
-        return format!(in alloc; "{reason}; none of {count} files was written");
-    }
-    let mut text = format!(in alloc; "{reason}; {done} of {count} files were written")?;
-    let mut separator = ": ";
-    for output in outputs.iter().take(done) {
-        text.push_str(separator)?;
-        text.push_str(output.path.as_str())?;
-        separator = ", ";
-    }
-    Ok(text)
-}
-
-/// Adds to an error of writing several outputs how many of them were written before it, and which.
-fn at_output(alloc: Global, failure: RunError, outputs: &[Output], done: usize) -> RunError
-    ensures { result.error ≡ failure.error }
-{
-    let RunError {
-        error,
-        place,
-        cause,
-        help,
-    } = failure;
-    let cause = match cause {
-        Some(reason) if outputs.len() > 1 => {
-            written_text(alloc, reason.as_str(), outputs, done).ok()
-        }
-        cause => cause,
-    };
-    RunError {
-        error,
-        place,
-        cause,
-        help,
     }
 }
 
@@ -200,6 +173,8 @@ fn write_all<S: Store>(alloc: Global, outputs: &[Output], files: &mut S) -> RunR
     ensures written { OnOk result (AreWritten outputs.now (S.view files.old) (S.view files.new)) }
     ensures stopped { OnErr result (HasStopped outputs.now (S.view files.old) (S.view files.new)) }
     ensures ready { (S.view files.new).stage_errors ≡ (S.view files.old).stage_errors }
+    ensures steps { OnOk result (AreStepsTaken (steps_at step.Write outputs.now)
+        (S.view files.old) (S.view files.new)) }
     ensures error { IfErr result
         (λ r. IsCallError call.Write (S.view files.old) (S.view files.new) r.error) }
 {
@@ -207,7 +182,10 @@ fn write_all<S: Store>(alloc: Global, outputs: &[Output], files: &mut S) -> RunR
     for output in outputs {
         match write_output(alloc, output, files) {
             Ok(()) => done = done.saturating_add(1),
-            Err(failure) => return Err(at_output(alloc, failure, outputs, done)),
+            Err(failure) => {
+                let is_taken_back = files.is_taken_back();
+                return Err(at_output(alloc, failure, outputs, done, is_taken_back));
+            }
         }
     }
     Ok(())
@@ -222,6 +200,8 @@ fn stage_and_write<S: Store>(alloc: Global, outputs: &[Output], files: &mut S) -
     ensures stopped { OnErr result (HasStopped outputs.now (S.view files.old) (S.view files.new)) }
     ensures staged { OnErr result ((S.view files.new).stage_errors ≢ (S.view files.old).stage_errors
         → SameFiles (S.view files.old).file_at (S.view files.new).file_at) }
+    ensures steps { OnOk result (AreStepsTaken (steps_to_write outputs.now)
+        (S.view files.old) (S.view files.new)) }
     ensures error { IfErr result
         (λ r. IsCallError call.Write (S.view files.old) (S.view files.new) r.error) }
 {
@@ -240,6 +220,9 @@ pub fn write_outputs<S: Store>(alloc: Global, outputs: &[Output], files: &mut S)
     ensures stopped { OnErr result (HasStopped outputs.now (S.view files.old) (S.view files.new)) }
     ensures staged { OnErr result ((S.view files.new).stage_errors ≢ (S.view files.old).stage_errors
         → SameFiles (S.view files.old).file_at (S.view files.new).file_at) }
+    ensures steps { OnOk result (AreStepsTaken (steps_to_write outputs.now)
+        (S.view files.old) (S.view files.new)) }
+    ensures discarded { OnErr result ((S.view files.old).tells ≡ true → (S.view files.new).steps ≡ []) }
     ensures error { IfErr result
         (λ r. IsCallError call.Write (S.view files.old) (S.view files.new) r.error) }
 {
@@ -256,6 +239,9 @@ pub fn write_outputs<S: Store>(alloc: Global, outputs: &[Output], files: &mut S)
 pub fn stage_outputs<S: Store>(alloc: Global, outputs: &[Output], files: &mut S) -> RunResult<()>
     ensures reads { OnlyReads (S.view files.old) (S.view files.new) }
     ensures ready { OnOk result ((S.view files.new).stage_errors ≡ (S.view files.old).stage_errors) }
+    ensures steps { OnOk result (AreStepsTaken (steps_to_prepare outputs.now)
+        (S.view files.old) (S.view files.new)) }
+    ensures discarded { OnErr result ((S.view files.old).tells ≡ true → (S.view files.new).steps ≡ []) }
     ensures error { IfErr result
         (λ r. IsCallError call.Write (S.view files.old) (S.view files.new) r.error) }
 {

@@ -1,6 +1,7 @@
 //! Reads the workspace of a command.
 ghost use Rattle.std.specs.Prelude.{◌≡◌, ◌<◌, ◌^◌, ◌⊎◌, All, IfErr, IfOk, option_map, true};
 ghost use Rattle.edit_base.specs.declared.errors.DeviceCall.TheVariants as call;
+ghost use Rattle.edit_base.specs.Errors.{IsMemory};
 ghost use Rattle.edit_metadata.specs.Inputs.{AreInputs, HaveOwnPaths};
 ghost use Rattle.edit_metadata.specs.Workspaces.{HasOwnFolders, workspace_view};
 ghost use Rattle.edit_store.specs.Store.{OnlyReads, IsCallError};
@@ -15,7 +16,7 @@ use crate::metadata_fault::at_metadata;
 use crate::paths::absolute_path;
 use crate::reread::at_first;
 use crate::run_error::{RunError, RunResult, at_file, at_path};
-use edit_base::paths::normal;
+use edit_base::paths::{folder, normal};
 use edit_base::{CargoResult, Error};
 use edit_metadata::{Input, Workspace, workspace_inputs};
 use edit_store::Store;
@@ -27,6 +28,21 @@ use std::alloc::Global;
 pub struct ReadWorkspace {
     pub workspace: Workspace,
     pub inputs: Vec<Input>,
+}
+
+/// Locks the folder of a workspace and the folders of its members.
+fn lock_workspace<S: Store>(alloc: Global, workspace: &Workspace, files: &mut S) -> CargoResult<()>
+    ensures reads { OnlyReads (S.view files.old) (S.view files.new) }
+    ensures error { IfErr result IsMemory }
+{
+    let mut folders = Vec::new(alloc);
+    folders.push(workspace.root.as_str())?;
+    for package in &workspace.packages {
+        if package.member {
+            folders.push(folder(package.manifest_path.as_str()))?;
+        }
+    }
+    files.lock(alloc, &folders)
 }
 
 /// Reads the given metadata file. Where files will be written, other runs on the workspace are waited for
@@ -60,7 +76,7 @@ fn read_metadata<S: Store>(
     match Workspace::read(alloc, &bytes) {
         Ok(workspace) => {
             if writes {
-                files.lock(alloc, workspace.root.as_str());
+                lock_workspace(alloc, &workspace, files)?;
             }
             Ok(workspace)
         }

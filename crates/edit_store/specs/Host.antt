@@ -1,5 +1,5 @@
 -- The model of the store of the machine's files (own).
-use Rattle.std.specs.Prelude.{◌≡◌, ◌⊎◌, ℕ, List, None, false, map, string_bytes}
+use Rattle.std.specs.Prelude.{◌≡◌, ◌⊎◌, ℕ, List, [], None, false, map, string_bytes}
 use Rattle.edit_base.specs.declared.errors.DeviceCall.{DeviceCall}
 use Rattle.edit_base.specs.declared.errors.Error.{Error}
 use Rattle.edit_base.specs.declared.errors.Error.TheVariants.{Device}
@@ -25,6 +25,7 @@ host_view store = record {
   tells = false;
   file_at = λ _. None;
   writes = host_writes store;
+  steps = [];
   faults = host_faults store;
   stage_errors = host_stage_errors store;
 }

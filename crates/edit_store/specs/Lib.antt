@@ -1,5 +1,6 @@
 pub mod Climbs
 pub mod Host
+pub mod Locks
 pub mod Memory
 pub mod Store
 pub mod Turns

@@ -1,23 +1,30 @@
 -- The model of a store: files as a map from paths to bytes, the writes made, and a count of faults (own).
-use Rattle.std.specs.Prelude.{◌≡◌, ◌≢◌, ℕ, ◌-◌, ◌^◌, ◌<◌, ◌≤◌, ◌⊎◌, ◌++◌, List, [], ◌∷◌, Option, Bool, IsSome, IsNone, Result, IfErr, codes}
+use Rattle.std.specs.Prelude.{◌≡◌, ◌≢◌, ℕ, ◌-◌, ◌^◌, ◌<◌, ◌≤◌, ◌⊎◌, ◌++◌, List, [], ◌∷◌, Option, Bool, true, IsSome, IsNone, Result, IfErr, codes}
 use Rattle.edit_base.specs.declared.errors.DeviceCall.{DeviceCall}
 use Rattle.edit_base.specs.declared.errors.Error.{Error}
 use Rattle.edit_base.specs.declared.errors.Error.TheVariants.{Device}
 use Rattle.edit_base.specs.Errors.{IsMemory}
 use Rattle.edit_store.specs.declared.store.Kind.{Kind}
+use Rattle.edit_store.specs.declared.store.StepKind.{StepKind}
 use Rattle.edit_store.specs.declared.store.Kind.TheVariants.{File, Folder, Absent}
 
 -- the contents of files: the bytes at each path that has a file (own)
 abbrev pub Files : Type 0
 Files = List ℕ → Option (List ℕ)
 
+-- a step of the write of the file at a path (own)
+pub record StepView : Type 0 where
+  pub kind : StepKind
+  pub path : List ℕ
+
 -- the model of a store: whether the contents of its files are known, these contents, the paths written so
--- far, one for each write in order, how often its device has failed, and how often a write could not be
--- staged (own)
+-- far, one for each write in order, the steps of writes since what is staged was last discarded, how often
+-- its device has failed, and how often a write could not be staged (own)
 pub record StoreView : Type 0 where
   pub tells : Bool
   pub file_at : Files
   pub writes : List (List ℕ)
+  pub steps : List StepView
   pub faults : ℕ
   pub stage_errors : ℕ
 
@@ -45,6 +52,14 @@ pub record OnlyReads (old new : StoreView) : Type 0 where
   pub files : SameFiles old.file_at new.file_at
   pub writes : new.writes ≡ old.writes
   pub later : old.faults ≤ new.faults
+
+-- these steps were taken, in order, by a store whose contents are known (own)
+abbrev pub AreStepsTaken : List StepView → StoreView → StoreView → Type 0
+AreStepsTaken steps old new = old.tells ≡ true → new.steps ≡ old.steps ++ steps
+
+-- one more step was taken, at this path (own)
+abbrev pub IsStepTaken : StepKind → List ℕ → StoreView → StoreView → Type 0
+IsStepTaken kind path old new = AreStepsTaken (record { kind = kind; path = path } ∷ []) old new
 
 -- one more write was made, to this path (own)
 abbrev pub IsWrittenOnce : List ℕ → StoreView → StoreView → Type 0

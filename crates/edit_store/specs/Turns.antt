@@ -5,7 +5,7 @@ use Rattle.edit_base.specs.declared.errors.DeviceCall.TheVariants.{Kind, Read, W
 use Rattle.edit_base.specs.declared.errors.Error.{Error}
 use Rattle.edit_base.specs.declared.errors.Error.TheVariants.{Device}
 use Rattle.edit_base.specs.Errors.{IsMemory}
-use Rattle.edit_store.specs.Memory.{files_in, writes_in}
+use Rattle.edit_store.specs.Memory.{files_in, stage_errors_in, steps_in, writes_in}
 use Rattle.edit_store.specs.Store.{StoreView, IsRaisedCount}
 use Rattle.edit_store.specs.declared.fault_store.FaultStore.{FaultStore}
 
@@ -33,8 +33,9 @@ fault_view store = record {
   tells = true;
   file_at = files_in store.inner;
   writes = writes_in store.inner;
+  steps = steps_in store.inner;
   faults = faults_of store;
-  stage_errors = 0;
+  stage_errors = stage_errors_in store.inner;
 }
 
 -- the failing write leaves a prefix of its bytes, unless memory runs out (own)

@@ -1,11 +1,11 @@
 //! Files in memory, one call of which fails.
 ghost use Rattle.std.specs.Prelude.{◌≡◌, ◌↔◌, Some, true, IsTrue, IfOk, IfErr, OnErr, OnOk, option_map};
-ghost use Rattle.edit_store.specs.Store.{HasCause, IsWrittenAtMostOnce, IsWrittenOnce, SameFiles, SameBut, HasKindAt, IsRaisedCount};
-ghost use Rattle.edit_store.specs.Memory.{files_in, writes_in};
+ghost use Rattle.edit_store.specs.Store.{HasCause, IsStepTaken, IsWrittenAtMostOnce, IsWrittenOnce, SameFiles, SameBut, HasKindAt, IsRaisedCount};
+ghost use Rattle.edit_store.specs.Memory.{files_in, stage_errors_in, writes_in};
 ghost use Rattle.edit_store.specs.Turns.{LeavesPrefix, TakesTurn, bytes_left, calls_left, fault_view, faults_of, one_less};
 
 use crate::memory_store::MemoryStore;
-use crate::store::{Kind, Store};
+use crate::store::{Kind, StepKind, Store};
 use edit_base::errors::{CargoResult, DeviceCall, Error};
 use std::alloc::Global;
 
@@ -104,6 +104,18 @@ impl Store for FaultStore {
         self.read(alloc, path)
     }
 
+    fn stage(&mut self, alloc: Global, path: &str, bytes: &[u8]) -> CargoResult<()> {
+        self.inner.stage(alloc, path, bytes)
+    }
+
+    fn flush(&mut self, alloc: Global, path: &str) -> CargoResult<()> {
+        self.inner.flush(alloc, path)
+    }
+
+    fn verify(&mut self, alloc: Global, path: &str) -> CargoResult<()> {
+        self.inner.verify(alloc, path)
+    }
+
     fn write(&mut self, alloc: Global, path: &str, bytes: &[u8]) -> CargoResult<()>
         ensures written { OnOk result (files_in self.new.inner path.now ≡ Some bytes.now) }
         ensures others { SameBut path.now (files_in self.old.inner) (files_in self.new.inner) }
@@ -111,6 +123,9 @@ impl Store for FaultStore {
         ensures at_most_once { OnErr result
             (IsWrittenAtMostOnce path.now (fault_view self.old) (fault_view self.new)) }
         ensures cause { HasCause DeviceCall.Write (fault_view self.old) (fault_view self.new) result }
+        ensures ready { stage_errors_in self.new.inner ≡ stage_errors_in self.old.inner }
+        ensures step { OnOk result
+            (IsStepTaken StepKind.Write path.now (fault_view self.old) (fault_view self.new)) }
         ensures turn { TakesTurn DeviceCall.Write self.old self.new result }
         ensures torn { calls_left self.old ≡ Some 0
             → IfErr result (LeavesPrefix self.old self.new path.now bytes.now) }
@@ -121,6 +136,10 @@ impl Store for FaultStore {
             return Err(self.fault(DeviceCall::Write));
         }
         self.inner.write(alloc, path, bytes)
+    }
+
+    fn unstage(&mut self, alloc: Global) {
+        self.inner.unstage(alloc);
     }
 
     fn faults(&self) -> u64 {

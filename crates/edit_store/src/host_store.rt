@@ -1,16 +1,16 @@
 //! The files of the machine.
-ghost use Rattle.std.specs.Prelude.{◌≡◌, []};
+ghost use Rattle.std.specs.Prelude.{◌≡◌, [], IfOk, string_bytes};
 ghost use Rattle.edit_store.specs.Host.{IsHostError, host_faults, host_stage_errors, host_view, host_writes};
 ghost use Rattle.edit_store.specs.Store.{IsRaisedCount};
 
+use crate::abandoned::restore_manifest;
 use crate::reading::{read_regular, read_stream};
 use crate::reason::{Reason, StoreResult};
 use crate::store::{Kind, Store};
-use crate::temporary::remove_abandoned_files;
 use crate::work::Work;
 use edit_base::errors::{CargoResult, DeviceCall, Error};
 use edit_base::paths::folder;
-use std::alloc::Global;
+use std::alloc::{AllocError, Global};
 use std::env::Env;
 use std::fs;
 use std::fs::{File, Files};
@@ -82,13 +82,36 @@ impl<R: Files<File = File> + Alloc<A = Global> + Drop> HostStore<R> {
     }
 }
 
-/// The bytes of a file, where one stands: what the machine says of a path at which none stands is no error.
-fn absent_as_none(answer: StoreResult<Vec<u8>>) -> StoreResult<Option<Vec<u8>>> {
+impl<R: Files<File = File> + Alloc<A = Global> + Clone + Drop> HostStore<R> {
+    /// Whether a manifest that was missing has come back: one that a killed run had moved aside, or that
+    /// another run moves at this moment.
+    fn is_restored(&self, path: &str) -> bool {
+        path.ends_with("/Cargo.toml")
+            && (restore_manifest(&self.rt, self.rt.alloc(), path, self.work.process())
+                || fs::symlink_metadata(&self.rt, path).is_ok())
+    }
+}
+
+/// What was read of a file, where one stands: what the machine says of a path at which none stands is no
+/// error.
+fn absent_as_none<T: Drop>(answer: StoreResult<T>) -> StoreResult<Option<T>> {
     match answer {
-        Ok(bytes) => Ok(Some(bytes)),
+        Ok(read) => Ok(Some(read)),
         Err(Reason::Machine(error)) if is_absent(error.kind()) => Ok(None),
         Err(reason) => Err(reason),
     }
+}
+
+/// A path as a text of its own, in place of a text that has room for it.
+fn path_text(alloc: Global, spare: Option<String>, path: &str) -> Result<String, AllocError>
+    ensures { IfOk result (λ s. string_bytes s ≡ path.now) }
+{
+    let Some(mut text) = spare else {
+        return String::from_str(alloc, path);
+    };
+    text.clear();
+    text.push_str(path)?;
+    Ok(text)
 }
 
 /// Whether the machine says that no file stands at a path.
@@ -108,15 +131,24 @@ impl<R: Files<File = File> + Alloc<A = Global> + Env + Eprint + Clone + Drop> St
             Ok(metadata) if metadata.is_file() => Ok(Kind::File),
             Ok(metadata) if metadata.is_dir() => Ok(Kind::Folder),
             Ok(_) => Ok(Kind::Absent),
-            Err(error) if is_absent(error.kind()) => Ok(Kind::Absent),
+            Err(error) if is_absent(error.kind()) => {
+                if self.is_restored(path) {
+                    return Ok(Kind::File);
+                }
+                Ok(Kind::Absent)
+            }
             Err(error) => Err(self.device_error(DeviceCall::Kind, Reason::from(error))),
         }
     }
 
     fn read(&mut self, alloc: Global, path: &str) -> CargoResult<Option<Vec<u8>>> {
-        match absent_as_none(read_regular(&self.rt, alloc, path)) {
-            Ok(Some(bytes)) => {
-                self.work.remember(alloc, path, &bytes)?;
+        let mut read = absent_as_none(read_regular(&self.rt, alloc, path));
+        if matches!(read, Ok(None)) && self.is_restored(path) {
+            read = absent_as_none(read_regular(&self.rt, alloc, path));
+        }
+        match read {
+            Ok(Some((bytes, identity))) => {
+                self.work.remember(alloc, path, &bytes, identity)?;
                 Ok(Some(bytes))
             }
             Ok(None) => Ok(None),
@@ -132,6 +164,11 @@ impl<R: Files<File = File> + Alloc<A = Global> + Env + Eprint + Clone + Drop> St
     }
 
     fn stage(&mut self, alloc: Global, path: &str, bytes: &[u8]) -> CargoResult<()> {
+        // (room for the paths of all writes that are ready)
+        let count = self.work.ready_count().saturating_add(1);
+        if self.writes.reserve(count).is_err() {
+            return Err(self.stage_error(Reason::from(AllocError)));
+        }
         match self.work.stage(&self.rt, alloc, path, bytes) {
             Ok(()) => Ok(()),
             Err(reason) => Err(self.stage_error(reason)),
@@ -153,7 +190,11 @@ impl<R: Files<File = File> + Alloc<A = Global> + Env + Eprint + Clone + Drop> St
     }
 
     fn write(&mut self, alloc: Global, path: &str, bytes: &[u8]) -> CargoResult<()> {
-        self.writes.push(String::from_str(alloc, path)?)?;
+        if let Err(reason) = self.work.make_ready(&self.rt, alloc, path, bytes) {
+            return Err(self.device_error(DeviceCall::Write, reason));
+        }
+        let spare = self.work.take_spare(path);
+        self.writes.push(path_text(alloc, spare, path)?)?;
         match self.work.write(&self.rt, alloc, path, bytes) {
             Ok(()) => Ok(()),
             Err(reason) => Err(self.device_error(DeviceCall::Write, reason)),
@@ -164,15 +205,20 @@ impl<R: Files<File = File> + Alloc<A = Global> + Env + Eprint + Clone + Drop> St
         self.work.unstage(&self.rt, alloc);
     }
 
-    fn lock(&mut self, alloc: Global, folder: &str) {
-        self.work.lock(&self.rt, alloc, folder);
+    fn lock(&mut self, alloc: Global, folders: &[&str]) -> CargoResult<()> {
+        self.work.lock(&self.rt, alloc, folders)?;
+        Ok(())
     }
 
     fn tidy(&mut self, alloc: Global, path: &str) {
         if let Ok(target) = fs::canonicalize(&self.rt, path) {
             let folder = folder(target.as_path().as_str());
-            remove_abandoned_files(&self.rt, alloc, folder, self.work.process());
+            self.work.tidy(&self.rt, alloc, folder);
         }
+    }
+
+    fn is_taken_back(&self) -> bool {
+        self.work.is_taken_back()
     }
 
     fn faults(&self) -> u64 {

@@ -1,11 +1,11 @@
 //! Reads files of the machine.
 use crate::reason::{StoreResult, found_reason};
 use std::alloc::Global;
-use std::fs;
 use std::fs::{File, Files, Metadata};
 use std::hash::{DefaultHasher, Hasher};
-use std::io::{IsTerminal, Read};
-use std::os::unix::fs::FileTypeExt;
+use std::io::{ErrorKind, IsTerminal, Read, Seek, SeekFrom};
+use std::os::unix::fs::{FileTypeExt, MetadataExt};
+use std::{fs, io};
 
 /// The greatest number of bytes that are read of one file.
 const LIMIT: u64 = 1_000_000_000;
@@ -27,22 +27,61 @@ impl Fingerprint {
             hash: hasher.finish(),
         }
     }
+
+    /// Returns the length of the text.
+    pub(crate) fn length(&self) -> u64 {
+        self.length as u64
+    }
 }
 
-/// Returns the bytes of a regular file. A character device is read only if it is empty, as `/dev/null` is;
-/// any other kind of file is an error.
+/// The device and the number of a file: no other file has them while it stands.
+pub(crate) type Identity = (u64, u64);
+
+/// Returns the device and the number of a file.
+pub(crate) fn identity_of(metadata: &Metadata) -> Identity {
+    (metadata.dev(), metadata.ino())
+}
+
+/// Returns the fingerprint of the text of an open file. No memory is asked for.
+pub(crate) fn fingerprint_of_file(file: &mut File) -> io::Result<Fingerprint> {
+    file.seek(SeekFrom::Start(0))?;
+    let mut hasher = DefaultHasher::new();
+    let mut length = 0usize;
+    let mut part = [0u8; 4096];
+    for _ in 0..LIMIT {
+        match file.read(&mut part) {
+            Ok(0) => {
+                let hash = hasher.finish();
+                return Ok(Fingerprint { length, hash });
+            }
+            Ok(count) => {
+                hasher.write(&part[..count]);
+                length = length.saturating_add(count);
+            }
+            Err(error) if error.kind() == ErrorKind::Interrupted => {}
+            Err(error) => return Err(error),
+        }
+    }
+    Err(io::Error::from(ErrorKind::FileTooLarge))
+}
+
+/// Returns the bytes of a regular file, and which file it is. A character device is read only if it is empty,
+/// as `/dev/null` is; any other kind of file is an error.
 pub(crate) fn read_regular<R: Files<File = File>>(
     rt: &R,
     alloc: Global,
     path: &str,
-) -> StoreResult<Vec<u8>> {
+) -> StoreResult<(Vec<u8>, Identity)> {
     let metadata = fs::metadata(rt, path)?;
     if metadata.is_file() || metadata.is_dir() {
         let file = File::open(rt, path)?;
-        return read_within(alloc, file, &metadata);
+        let opened = file.metadata()?;
+        let bytes = read_within(alloc, file, &opened)?;
+        return Ok((bytes, identity_of(&opened)));
     }
     if metadata.file_type().is_char_device() {
-        return read_device(alloc, File::open(rt, path)?);
+        let bytes = read_device(alloc, File::open(rt, path)?)?;
+        return Ok((bytes, identity_of(&metadata)));
     }
     Err(found_reason(alloc, "it is not a regular file"))
 }
@@ -68,6 +107,12 @@ fn read_within(alloc: Global, file: File, metadata: &Metadata) -> StoreResult<Ve
         return Err(found_reason(alloc, "it is larger than 1 GB"));
     }
     let mut bytes = Vec::new(alloc);
+    if metadata.is_file()
+        && let Ok(length) = usize::try_from(metadata.len())
+    {
+        // (one byte more, so that the end is found without more room)
+        bytes.reserve(length.saturating_add(1))?;
+    }
     file.take(LIMIT + 1).read_to_end(&mut bytes)?;
     if bytes.len() as u64 > LIMIT {
         return Err(found_reason(alloc, "it is larger than 1 GB"));

@@ -1,6 +1,7 @@
 //! A write that is ready: the file that takes a manifest's place, or a copy of the manifest's text.
-use crate::reading::Fingerprint;
-use crate::reason::{Reason, StoreResult, found_reason};
+use crate::backup::make_backup;
+use crate::reading::{Fingerprint, Identity, identity_of};
+use crate::reason::{Reason, StoreResult};
 use crate::temporary::{Temporary, make_temporary};
 use edit_base::paths::folder;
 use std::alloc::Global;
@@ -8,33 +9,74 @@ use std::env::Env;
 use std::fs::{File, Files, Metadata, OpenOptions};
 use std::io::{ErrorKind, Write};
 use std::os::unix::fs::{MetadataExt, fchown};
-use std::{env, fs, io};
+use std::{fs, io};
 
 /// How a write that is ready is made.
 #[derive(Debug, Drop)]
 pub(crate) enum WriteMethod {
-    /// The temporary file takes the place of the file.
-    Rename(Temporary),
+    /// The temporary file takes the place of the manifest, which is moved aside first.
+    Replace(Temporary),
+    /// The temporary file gets the name, which no file has yet.
+    Create(Temporary),
     /// The file is overwritten, while this copy of its old text stands.
     InPlace(Temporary),
-    /// The bytes are written to a pipe or a device, or to the end of what `/dev/stdout` and the like lead to.
-    Append,
+    /// The bytes are appended to a pipe or a device, or to a file that is open as `/dev/stdout` or the like.
+    /// It is open from the start, so that one that cannot be opened is an error while all files are old.
+    Append(File),
+}
+
+/// The paths of a write: all that is needed of them once the first file is moved, since no memory may be
+/// asked for then.
+#[derive(Debug, Drop)]
+pub(crate) struct WritePaths {
+    /// The path as the caller names it.
+    pub(crate) name: String,
+    /// The real path of the file.
+    pub(crate) target: String,
+    /// Where the old file stands until all files are written.
+    pub(crate) aside: String,
+    /// Where a copy of the old text stands while the file is overwritten.
+    pub(crate) copy: String,
 }
 
 /// A write that is ready.
 #[derive(Debug, Drop)]
 pub(crate) struct Staged {
-    /// The path as the caller names it.
-    pub(crate) path: String,
-    /// The real path of the file.
-    pub(crate) target: String,
+    pub(crate) paths: WritePaths,
     pub(crate) way: WriteMethod,
-    /// The device and the number of the file that stands there.
-    pub(crate) identity: Option<(u64, u64)>,
+    /// Which file stands there.
+    pub(crate) identity: Option<Identity>,
+    /// The fingerprint of its text, where that was read.
+    pub(crate) old: Option<Fingerprint>,
     /// The fingerprint of the new text.
     pub(crate) text: Fingerprint,
     /// Whether the file was compared with what was read of it.
     pub(crate) verified: bool,
+    /// The path once more, for the count of the writes.
+    pub(crate) spare: Option<String>,
+}
+
+impl WritePaths {
+    /// The paths of a write to a file with this real path and this inode number.
+    fn new(
+        alloc: Global,
+        name: &str,
+        target: &str,
+        inode: u64,
+        process: u32,
+    ) -> StoreResult<WritePaths> {
+        let folder = folder(target);
+        let file = match target.rsplit_once('/') {
+            Some((_, file)) => file,
+            None => target,
+        };
+        Ok(WritePaths {
+            name: String::from_str(alloc, name)?,
+            target: String::from_str(alloc, target)?,
+            aside: format!(in alloc; "{folder}/.cargo-edit.{process}-{inode}.{file}.was")?,
+            copy: format!(in alloc; "{folder}/.cargo-edit.{process}-{inode}.old")?,
+        })
+    }
 }
 
 /// Makes a write ready: the bytes are in a new file with the owner and the permissions of the old one, which
@@ -46,10 +88,10 @@ pub(crate) fn prepare<R: Files<File = File> + Alloc<A = Global> + Env>(
     bytes: &[u8],
     process: u32,
 ) -> StoreResult<Staged> {
-    let name = String::from_str(alloc, path)?;
+    let spare = String::from_str(alloc, path)?;
     if is_descriptor(path) {
-        let same = String::from_str(alloc, path)?;
-        return Ok(make_staged(name, same, WriteMethod::Append, None, bytes));
+        let paths = WritePaths::new(alloc, path, path, 0, process)?;
+        return Ok(make_staged(paths, spare, open_stream(rt, path)?, None, bytes));
     }
     let target = match fs::canonicalize(rt, path) {
         Ok(target) => target,
@@ -63,14 +105,13 @@ pub(crate) fn prepare<R: Files<File = File> + Alloc<A = Global> + Env>(
     if old.is_dir() {
         return Err(Reason::from(io::Error::from(ErrorKind::IsADirectory)));
     }
-    let real = String::from_str(alloc, target)?;
+    let paths = WritePaths::new(alloc, path, target, old.ino(), process)?;
     let way = if old.is_file() {
         choose_method(rt, alloc, target, &old, bytes, process)?
     } else {
-        WriteMethod::Append
+        open_stream(rt, target)?
     };
-    let identity = Some((old.dev(), old.ino()));
-    Ok(make_staged(name, real, way, identity, bytes))
+    Ok(make_staged(paths, spare, way, Some(identity_of(&old)), bytes))
 }
 
 /// Whether a path names an open file of the process, as `/dev/stdout` does, or a shell's `>(..)`.
@@ -81,27 +122,34 @@ fn is_descriptor(path: &str) -> bool {
         || (path.starts_with("/proc/") && path.contains("/fd/"))
 }
 
+/// Opens what bytes are appended to, and makes it where it is not there. A named pipe that nobody reads makes
+/// the call wait.
+fn open_stream<R: Files<File = File>>(rt: &R, path: &str) -> io::Result<WriteMethod> {
+    let file = OpenOptions::new().append(true).create(true).open(rt, path)?;
+    Ok(WriteMethod::Append(file))
+}
+
 /// A write of these bytes. The texts are made before any file is, so that a lack of memory leaves none
 /// behind.
 fn make_staged(
-    path: String,
-    target: String,
+    paths: WritePaths,
+    spare: String,
     way: WriteMethod,
-    identity: Option<(u64, u64)>,
+    identity: Option<Identity>,
     bytes: &[u8],
 ) -> Staged {
     Staged {
-        path,
-        target,
+        paths,
         way,
         identity,
+        old: None,
         text: Fingerprint::of(bytes),
         verified: false,
+        spare: Some(spare),
     }
 }
 
-/// Makes a write ready where no file stands yet. A link that leads nowhere is followed when the write is
-/// made.
+/// Makes a write ready where no file exists yet. The missing target of a link is made.
 fn prepare_new<R: Files<File = File>>(
     rt: &R,
     alloc: Global,
@@ -109,10 +157,10 @@ fn prepare_new<R: Files<File = File>>(
     bytes: &[u8],
     process: u32,
 ) -> StoreResult<Staged> {
-    let name = String::from_str(alloc, path)?;
-    let same = String::from_str(alloc, path)?;
+    let paths = WritePaths::new(alloc, path, path, 0, process)?;
+    let spare = String::from_str(alloc, path)?;
     if fs::symlink_metadata(rt, path).is_ok() {
-        return Ok(make_staged(name, same, WriteMethod::Append, None, bytes));
+        return Ok(make_staged(paths, spare, open_stream(rt, path)?, None, bytes));
     }
     let Some((mut file, mut temporary)) = make_temporary(
         rt,
@@ -130,13 +178,8 @@ fn prepare_new<R: Files<File = File>>(
         return Err(Reason::from(error));
     }
     temporary.hold(file);
-    Ok(make_staged(name, same, WriteMethod::Rename(temporary), None, bytes))
-}
-
-/// Writes bytes to the disk.
-fn fill(file: &mut File, bytes: &[u8]) -> io::Result<()> {
-    file.write_all(bytes)?;
-    file.sync_all()
+    let way = WriteMethod::Create(temporary);
+    Ok(make_staged(paths, spare, way, None, bytes))
 }
 
 /// How a regular file is to be written, made ready. It is overwritten where no file may be made in its
@@ -156,7 +199,7 @@ fn choose_method<R: Files<File = File> + Alloc<A = Global> + Env>(
         match fill_like(&mut file, old, bytes) {
             Ok(true) => {
                 temporary.hold(file);
-                return Ok(WriteMethod::Rename(temporary));
+                return Ok(WriteMethod::Replace(temporary));
             }
             Ok(false) => temporary.remove(rt),
             Err(error) => {
@@ -192,72 +235,54 @@ fn fill_like(file: &mut File, old: &Metadata, bytes: &[u8]) -> io::Result<bool> 
     Ok(true)
 }
 
-/// A copy of a file's text on the disk: in its folder, or in the folder for temporary files where none may be
-/// made there.
-pub(crate) fn make_backup<R: Files<File = File> + Alloc<A = Global> + Env>(
-    rt: &R,
-    alloc: Global,
-    target: &str,
-    process: u32,
-) -> StoreResult<Temporary> {
-    let bytes = fs::read(rt, target)?;
-    let made = match make_temporary(rt, alloc, folder(target), process, 0o600, "old")? {
-        Some(made) => Some(made),
-        None => {
-            let elsewhere = temporary_folder(rt, alloc)?;
-            make_temporary(rt, alloc, elsewhere.as_str(), process, 0o600, "old")?
-        }
-    };
-    let Some((mut file, copy)) = made else {
-        return Err(found_reason(alloc, "no copy of it can be made before it is overwritten"));
-    };
-    match fill(&mut file, &bytes) {
-        Ok(()) => Ok(copy),
-        Err(error) => {
-            copy.remove(rt);
-            Err(Reason::from(error))
-        }
-    }
-}
-
-/// The folder for temporary files that `TMPDIR` names, else `/tmp`.
-fn temporary_folder<R: Env + Alloc<A = Global>>(rt: &R, alloc: Global) -> StoreResult<String> {
-    match env::var(rt, "TMPDIR") {
-        Ok(folder) if folder.starts_with('/') => Ok(folder),
-        _ => Ok(String::from_str(alloc, "/tmp")?),
-    }
-}
-
 impl Staged {
+    /// Whether the file at a path is the one that was compared; a link is not followed.
+    pub(crate) fn is_old_file<R: Files>(&self, rt: &R, path: &str) -> bool {
+        match fs::symlink_metadata(rt, path) {
+            Ok(there) => Some(identity_of(&there)) == self.identity,
+            Err(_) => false,
+        }
+    }
+
+    /// Which file stands at the path once the write is made; none where that is not known.
+    pub(crate) fn new_identity(&self) -> Option<Identity> {
+        match &self.way {
+            WriteMethod::Replace(new) | WriteMethod::Create(new) => Some(new.identity()),
+            WriteMethod::InPlace(_) | WriteMethod::Append(_) => self.identity,
+        }
+    }
+
     /// Whether the files that were made for the write stand as they were made.
     pub(crate) fn is_at_path<R: Files<File = File>>(&self, rt: &R) -> bool {
         match &self.way {
-            WriteMethod::Rename(file) | WriteMethod::InPlace(file) => file.is_at_path(rt),
-            WriteMethod::Append => true,
+            WriteMethod::Replace(file) | WriteMethod::Create(file) | WriteMethod::InPlace(file) =>
+                file.is_at_path(rt),
+            WriteMethod::Append(_) => true,
         }
     }
 
     /// Whether the bytes are still to be flushed to the disk.
     pub(crate) fn is_open(&self) -> bool {
         match &self.way {
-            WriteMethod::Rename(file) => file.is_open(),
-            WriteMethod::InPlace(_) | WriteMethod::Append => false,
+            WriteMethod::Replace(file) | WriteMethod::Create(file) => file.is_open(),
+            WriteMethod::InPlace(_) | WriteMethod::Append(_) => false,
         }
     }
 
     /// Flushes the bytes to the disk, where that is still to be done.
     pub(crate) fn flush(&mut self) -> io::Result<()> {
         match &mut self.way {
-            WriteMethod::Rename(file) => file.flush(),
-            WriteMethod::InPlace(_) | WriteMethod::Append => Ok(()),
+            WriteMethod::Replace(file) | WriteMethod::Create(file) => file.flush(),
+            WriteMethod::InPlace(_) | WriteMethod::Append(_) => Ok(()),
         }
     }
 
     /// Removes the files that were made for the write.
     pub(crate) fn give_up<R: Files<File = File>>(&self, rt: &R) {
         match &self.way {
-            WriteMethod::Rename(file) | WriteMethod::InPlace(file) => file.remove(rt),
-            WriteMethod::Append => {}
+            WriteMethod::Replace(file) | WriteMethod::Create(file) | WriteMethod::InPlace(file) =>
+                file.remove(rt),
+            WriteMethod::Append(_) => {}
         }
     }
 }

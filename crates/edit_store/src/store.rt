@@ -1,7 +1,8 @@
 //! The trait of a store of files that may fail.
-ghost use Rattle.std.specs.Prelude.{◌≡◌, Some, true, IfOk, OnErr, OnOk, option_map};
+ghost use Rattle.std.specs.Prelude.{◌≡◌, [], Some, true, IfErr, IfOk, OnErr, OnOk, option_map};
+ghost use Rattle.edit_base.specs.Errors.{IsMemory};
 ghost use Rattle.edit_base.specs.declared.errors.DeviceCall.TheVariants as call;
-ghost use Rattle.edit_store.specs.Store.{HasCause, IsWrittenAtMostOnce, IsWrittenOnce, OnlyReads, SameFiles, SameBut, HasKindAt, StoreView, IsRaisedCount};
+ghost use Rattle.edit_store.specs.Store.{HasCause, IsStepTaken, IsWrittenAtMostOnce, IsWrittenOnce, OnlyReads, SameFiles, SameBut, HasKindAt, StoreView, IsRaisedCount};
 
 use edit_base::errors::{CargoResult, DeviceCall};
 use std::alloc::Global;
@@ -14,6 +15,16 @@ pub enum Kind {
     Absent,
 }
 
+/// A step of a write: its bytes are made ready, flushed to the disk, the file is compared with what was read
+/// of it, and written.
+#[derive(Clone, Copy, Debug, PartialEq, Eq)]
+pub enum StepKind {
+    Stage,
+    Flush,
+    Verify,
+    Write,
+}
+
 /// A store of files that may fail. Paths are absolute, with `/` between their segments.
 ///
 /// A store whose view has `tells` set is a finite map from paths to bytes.
@@ -23,8 +34,8 @@ pub enum Kind {
 /// it calls `unstage`.
 pub trait Store {
     /// The model of a store: whether the contents of its files are known, the bytes of the file at each path
-    /// if so, the paths written so far, how often its device has failed, and how often a write could not be
-    /// staged.
+    /// if so, the paths written so far, the steps of writes since the last `unstage`, how often its device has
+    /// failed, and how often a write could not be staged.
     ghost view: { Self → StoreView };
 
     /// Returns the kind of file at a path, following links.
@@ -60,7 +71,7 @@ pub trait Store {
     }
 
     /// Stages a write of these bytes to a path: does as much of it as is possible with every file unchanged.
-    fn stage(&mut self, _alloc: Global, _path: &str, _bytes: &[u8]) -> CargoResult<()>
+    fn stage(&mut self, alloc: Global, path: &str, bytes: &[u8]) -> CargoResult<()>
         ensures tells { (view self.new).tells ≡ (view self.old).tells }
         ensures files { SameFiles (view self.old).file_at (view self.new).file_at }
         ensures writes { (view self.new).writes ≡ (view self.old).writes }
@@ -68,13 +79,11 @@ pub trait Store {
         ensures ready { OnOk result ((view self.new).stage_errors ≡ (view self.old).stage_errors) }
         ensures counted { OnErr result
             (IsRaisedCount (view self.old).stage_errors (view self.new).stage_errors) }
-    {
-        Ok(())
-    }
+        ensures step { OnOk result (IsStepTaken StepKind.Stage path.now (view self.old) (view self.new)) };
 
     /// Flushes the write that is staged for a path to the disk, so that a crash after `write` loses none of
     /// its bytes. Every file is unchanged.
-    fn flush(&mut self, _alloc: Global, _path: &str) -> CargoResult<()>
+    fn flush(&mut self, alloc: Global, path: &str) -> CargoResult<()>
         ensures tells { (view self.new).tells ≡ (view self.old).tells }
         ensures files { SameFiles (view self.old).file_at (view self.new).file_at }
         ensures writes { (view self.new).writes ≡ (view self.old).writes }
@@ -82,12 +91,10 @@ pub trait Store {
         ensures ready { OnOk result ((view self.new).stage_errors ≡ (view self.old).stage_errors) }
         ensures counted { OnErr result
             (IsRaisedCount (view self.old).stage_errors (view self.new).stage_errors) }
-    {
-        Ok(())
-    }
+        ensures step { OnOk result (IsStepTaken StepKind.Flush path.now (view self.old) (view self.new)) };
 
     /// Compares a file with what was read of it: an error where another program has changed it since.
-    fn verify(&mut self, _alloc: Global, _path: &str) -> CargoResult<()>
+    fn verify(&mut self, alloc: Global, path: &str) -> CargoResult<()>
         ensures tells { (view self.new).tells ≡ (view self.old).tells }
         ensures files { SameFiles (view self.old).file_at (view self.new).file_at }
         ensures writes { (view self.new).writes ≡ (view self.old).writes }
@@ -95,9 +102,7 @@ pub trait Store {
         ensures ready { OnOk result ((view self.new).stage_errors ≡ (view self.old).stage_errors) }
         ensures counted { OnErr result
             (IsRaisedCount (view self.old).stage_errors (view self.new).stage_errors) }
-    {
-        Ok(())
-    }
+        ensures step { OnOk result (IsStepTaken StepKind.Verify path.now (view self.old) (view self.new)) };
 
     /// Writes a whole file. The steps `stage`, `flush` and `verify` are done first where the caller has not
     /// done them. After an error that file may hold anything.
@@ -109,27 +114,38 @@ pub trait Store {
         ensures once { OnOk result (IsWrittenOnce path.now (view self.old) (view self.new)) }
         ensures at_most_once { OnErr result (IsWrittenAtMostOnce path.now (view self.old) (view self.new)) }
         ensures cause { HasCause DeviceCall.Write (view self.old) (view self.new) result }
-        ensures ready { (view self.new).stage_errors ≡ (view self.old).stage_errors };
+        ensures ready { (view self.new).stage_errors ≡ (view self.old).stage_errors }
+        ensures step { OnOk result (IsStepTaken StepKind.Write path.now (view self.old) (view self.new)) };
 
     /// Discards the staged writes that were not carried out.
-    fn unstage(&mut self, _alloc: Global)
+    fn unstage(&mut self, alloc: Global)
         ensures tells { (view self.new).tells ≡ (view self.old).tells }
         ensures files { SameFiles (view self.old).file_at (view self.new).file_at }
         ensures writes { (view self.new).writes ≡ (view self.old).writes }
         ensures faults { (view self.new).faults ≡ (view self.old).faults }
         ensures ready { (view self.new).stage_errors ≡ (view self.old).stage_errors }
-    {}
+        ensures discards { (view self.old).tells ≡ true → (view self.new).steps ≡ [] };
 
-    /// Locks a folder until the program ends, so that other runs that lock it wait; waits for other runs
-    /// first. Without effect where the system has no locks.
-    fn lock(&mut self, _alloc: Global, _folder: &str)
-        ensures { OnlyReads (view self.old) (view self.new) }
-    {}
+    /// Locks folders until the program ends, so that other runs that lock one of them, a folder above or a
+    /// folder below wait; waits for other runs first. A run calls it once. Without effect where the system
+    /// has no locks.
+    fn lock(&mut self, _alloc: Global, _folders: &[&str]) -> CargoResult<()>
+        ensures reads { OnlyReads (view self.old) (view self.new) }
+        ensures error { IfErr result IsMemory }
+    {
+        Ok(())
+    }
 
     /// Removes the temporary files that killed runs left in the folder of a file.
     fn tidy(&mut self, _alloc: Global, _path: &str)
         ensures { OnlyReads (view self.old) (view self.new) }
     {}
+
+    /// Whether the last error of `write` took back what was written before it, since another program had
+    /// changed one of the files.
+    fn is_taken_back(&self) -> bool {
+        false
+    }
 
     /// How often the device has failed. The count stops at `u64::MAX`.
     fn faults(&self) -> u64

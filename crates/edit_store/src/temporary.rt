@@ -1,18 +1,19 @@
 //! New files of a run beside a manifest, under names that no other program has.
+use crate::reading::{Identity, identity_of};
 use crate::reason::{Reason, StoreResult};
 use edit_base::paths::folder;
 use std::alloc::Global;
-use std::fs::{DirEntry, File, Files, OpenOptions};
+use std::env::Env;
+use std::fs::{File, Files, OpenOptions};
 use std::io::ErrorKind;
 use std::os::unix::fs::{MetadataExt, OpenOptionsExt};
-use std::{fs, io};
+use std::{env, fs, io};
 
 /// A new file of this run, whose name has the number of the run's process and the file's own number.
 #[derive(Debug, Drop)]
 pub(crate) struct Temporary {
     pub(crate) path: String,
-    device: u64,
-    inode: u64,
+    identity: Identity,
     /// The file itself, open until what was written to it is flushed to the disk.
     open: Option<File>,
 }
@@ -89,8 +90,7 @@ fn rename_by_number<R: Files<File = File>>(
     fs::rename(rt, first, path.as_str())?;
     Ok(Temporary {
         path,
-        device: metadata.dev(),
-        inode,
+        identity: identity_of(&metadata),
         open: None,
     })
 }
@@ -99,6 +99,11 @@ impl Temporary {
     /// Holds the file, to be flushed later.
     pub(crate) fn hold(&mut self, file: File) {
         self.open = Some(file);
+    }
+
+    /// Which file it is.
+    pub(crate) fn identity(&self) -> Identity {
+        self.identity
     }
 
     /// Whether it is still to be flushed.
@@ -114,10 +119,10 @@ impl Temporary {
         }
     }
 
-    /// Whether its name still leads to it.
+    /// Whether its name is still its own.
     pub(crate) fn is_at_path<R: Files<File = File>>(&self, rt: &R) -> bool {
         match fs::symlink_metadata(rt, self.path.as_str()) {
-            Ok(there) => there.dev() == self.device && there.ino() == self.inode,
+            Ok(there) => identity_of(&there) == self.identity,
             Err(_) => false,
         }
     }
@@ -130,95 +135,36 @@ impl Temporary {
     }
 }
 
-/// What the name of a temporary file says.
-#[derive(Clone, Copy, Debug)]
-struct Name {
-    process: u32,
-    /// The file's own number; none where it was not yet known.
-    inode: Option<u64>,
-}
-
-/// What the name of a temporary file says; none of another name.
-fn read_name(name: &str) -> Option<Name> {
-    let rest = name.strip_prefix(".cargo-edit.")?;
-    if let Some(numbers) = rest.strip_suffix(".new") {
-        let (process, _) = numbers.split_once('-')?;
-        return Some(Name {
-            process: process.parse::<u32>().ok()?,
-            inode: None,
-        });
-    }
-    let (process, inode) = rest.strip_suffix(".tmp")?.split_once('-')?;
-    Some(Name {
-        process: process.parse::<u32>().ok()?,
-        inode: Some(inode.parse::<u64>().ok()?),
-    })
-}
-
-/// Removes the temporary files in a folder whose runs were killed.
-pub(crate) fn remove_abandoned_files<R: Files<File = File> + Alloc<A = Global> + Clone + Drop>(
+/// The folder for temporary files that `TMPDIR` names, else `/tmp`.
+pub(crate) fn temporary_folder<R: Env + Alloc<A = Global>>(
     rt: &R,
     alloc: Global,
-    folder: &str,
-    process: u32,
-) {
-    let Ok(entries) = fs::read_dir(rt, folder) else {
-        return;
-    };
-    for entry in entries {
-        if let Ok(entry) = entry {
-            remove_abandoned_file(rt, alloc, &entry, process);
+) -> StoreResult<String> {
+    match env::var(rt, "TMPDIR") {
+        Ok(folder) if folder.starts_with('/') => Ok(folder),
+        _ => Ok(String::from_str(alloc, "/tmp")?),
+    }
+}
+
+/// Gives a file a name that no file has; its old name goes. Where a file has that name, it is an error.
+///
+/// A file system without hard links has no such call: there a file that gets the name at the same time is
+/// replaced.
+pub(crate) fn move_to_free_name<R: Files>(rt: &R, from: &str, to: &str) -> io::Result<()> {
+    match fs::hard_link(rt, from, to) {
+        Ok(()) => {
+            let _ = fs::remove_file(rt, from);
+            Ok(())
         }
+        Err(error) if is_without_links(error.kind()) => fs::rename(rt, from, to),
+        Err(error) => Err(error),
     }
 }
 
-/// Removes what a folder holds under a name, where it is a temporary file whose run was killed.
-fn remove_abandoned_file<R: Files<File = File> + Alloc<A = Global>>(
-    rt: &R,
-    alloc: Global,
-    entry: &DirEntry<R>,
-    process: u32,
-) {
-    if let Some(name) = read_name(entry.file_name())
-        && is_own(entry, name)
-        && !is_running(rt, alloc, name.process, process)
-    {
-        let _ = fs::remove_file(rt, entry.path());
-    }
-}
-
-/// Whether a file under the name of a temporary one is one: a regular file with the number in its name, or an
-/// empty one where the name has none.
-fn is_own<R: Files<File = File>>(entry: &DirEntry<R>, name: Name) -> bool {
-    match entry.metadata() {
-        Ok(metadata) if !metadata.is_file() || metadata.nlink() != 1 => false,
-        Ok(metadata) => match name.inode {
-            Some(inode) => metadata.ino() == inode,
-            None => metadata.len() == 0,
-        },
-        Err(_) => false,
-    }
-}
-
-/// Whether a process of this program, but for the own one, runs under a number.
-fn is_running<R: Files<File = File> + Alloc<A = Global>>(
-    rt: &R,
-    alloc: Global,
-    number: u32,
-    own: u32,
-) -> bool {
-    if number == own {
-        return false;
-    }
-    let Ok(name) = format!(in alloc; "/proc/{number}/exe") else {
-        return true;
-    };
-    match (
-        fs::read_link(rt, name.as_str()),
-        fs::read_link(rt, "/proc/self/exe"),
-    ) {
-        (Ok(other), Ok(this)) => other.as_path().as_str() == this.as_path().as_str(),
-        (Err(error), _) => error.kind() != ErrorKind::NotFound,
-        _ => true,
-    }
+/// Whether the machine says that a file can have no second name.
+fn is_without_links(kind: ErrorKind) -> bool {
+    matches!(
+        kind,
+        ErrorKind::PermissionDenied | ErrorKind::Unsupported | ErrorKind::TooManyLinks
+    )
 }

@@ -1,37 +1,48 @@
 //! What a store of the machine's files has read, made ready and written in a run.
-use crate::commit::commit;
-use crate::reading::Fingerprint;
-use crate::reason::{Reason, StoreResult, found_reason};
-use crate::replaced_file::{ReplacedFile, WATCHED, check_replaced_files};
+use crate::abandoned::remove_abandoned_files;
+use crate::locks::lock_folders;
+use crate::reading::{Fingerprint, Identity};
+use crate::reason::{CHANGED, Reason, StoreResult, found_reason};
 use crate::staged::{Staged, WriteMethod, prepare};
-use edit_base::paths::folder;
+use crate::temporary::temporary_folder;
+use crate::writing::is_as_read;
 use std::alloc::{AllocError, Global};
 use std::collections::BTreeMap;
 use std::env::Env;
-use std::fs::{File, Files, TryLockError};
+use std::fs::{File, Files};
 use std::io::Eprint;
 
 /// How many new files wait open to be flushed together at most: each takes one of the process's open files.
 const OPEN: usize = 400;
+
+/// A file as it was read first, or was written since.
+#[derive(Clone, Copy, Debug)]
+pub(crate) struct ReadFile {
+    pub(crate) text: Fingerprint,
+    pub(crate) identity: Identity,
+}
 
 /// What a store of the machine's files has read, made ready and written in a run.
 #[derive(Debug, Drop)]
 pub(crate) struct Work {
     /// The number of the run's process, for the names of new files.
     process: u32,
-    /// The text of each file as it was read first, or was written since.
-    texts: BTreeMap<String, Fingerprint>,
+    /// Each file as it was read first, or was written since.
+    pub(crate) texts: BTreeMap<String, ReadFile>,
     /// The writes that are ready, by their paths.
-    staged: BTreeMap<String, Staged>,
+    pub(crate) staged: BTreeMap<String, Staged>,
     /// How many of them are still to be flushed to the disk.
-    open: usize,
+    pub(crate) open: usize,
     /// How many of them were compared with what was read.
-    verified: usize,
+    pub(crate) verified: usize,
     /// The path that is staged for each file, by the file's device and number.
-    paths: BTreeMap<(u64, u64), String>,
-    /// The files that were replaced since the last flush, and their folders.
-    watched: Vec<ReplacedFile>,
-    folders: Vec<String>,
+    pub(crate) paths: BTreeMap<(u64, u64), String>,
+    /// The writes that were made since the last flush: each can be taken back.
+    pub(crate) made: Vec<Staged>,
+    /// Whether they were taken back, since another program wrote to one of the files.
+    pub(crate) is_taken_back: bool,
+    /// Whether the folder for temporary files was tidied.
+    is_tidied: bool,
     /// Locked folders, which stay so while they are open.
     locked: Vec<File>,
 }
@@ -46,8 +57,9 @@ impl Work {
             open: 0,
             verified: 0,
             paths: BTreeMap::new(alloc),
-            watched: Vec::new(alloc),
-            folders: Vec::new(alloc),
+            made: Vec::new(alloc),
+            is_taken_back: false,
+            is_tidied: false,
             locked: Vec::new(alloc),
         }
     }
@@ -57,18 +69,30 @@ impl Work {
         self.process
     }
 
-    /// Remembers the text of a file as it is read first.
+    /// How many writes are ready.
+    pub(crate) fn ready_count(&self) -> usize {
+        self.staged.len()
+    }
+
+    /// Whether the writes that were made were taken back.
+    pub(crate) fn is_taken_back(&self) -> bool {
+        self.is_taken_back
+    }
+
+    /// Remembers the text of a file as it is read first, and which file it is.
     pub(crate) fn remember(
         &mut self,
         alloc: Global,
         path: &str,
         bytes: &[u8],
+        identity: Identity,
     ) -> Result<(), AllocError> {
         if self.texts.contains_key(path) {
             return Ok(());
         }
         let name = String::from_str(alloc, path)?;
-        self.texts.insert(name, Fingerprint::of(bytes))?;
+        let text = Fingerprint::of(bytes);
+        self.texts.insert(name, ReadFile { text, identity })?;
         Ok(())
     }
 
@@ -86,6 +110,9 @@ impl Work {
             return Ok(());
         }
         self.give_up(rt, path);
+        self.is_taken_back = false;
+        // (room for all that are ready, so that none is asked for once a file is moved)
+        self.made.reserve(self.staged.len().saturating_add(1))?;
         let staged = self.prepare_write(rt, alloc, path, bytes)?;
         let is_open = staged.is_open();
         match self.put(alloc, path, &staged) {
@@ -118,7 +145,7 @@ impl Work {
         bytes: &[u8],
     ) -> StoreResult<Staged> {
         let mut staged = prepare(rt, alloc, path, bytes, self.process)?;
-        if self.open >= OPEN
+        if self.open.saturating_add(self.locked.len()) >= OPEN
             && let Err(error) = staged.flush()
         {
             staged.give_up(rt);
@@ -131,7 +158,10 @@ impl Work {
     /// same file is staged.
     fn put(&mut self, alloc: Global, path: &str, staged: &Staged) -> StoreResult<String> {
         if let Some(identity) = staged.identity
-            && matches!(staged.way, WriteMethod::Rename(_) | WriteMethod::InPlace(_))
+            && matches!(
+                staged.way,
+                WriteMethod::Replace(_) | WriteMethod::InPlace(_)
+            )
         {
             if let Some(other) = self.paths.get(&identity)
                 && other.as_str() != path
@@ -192,22 +222,18 @@ impl Work {
         if !staged.is_at_path(rt) {
             return Err(found_reason(alloc, "another program moved its temporary file"));
         }
-        if let Some(old) = self.texts.get(path) {
-            let Some(watched) = ReplacedFile::open(rt, alloc, path, *old, staged.text)? else {
-                return Err(found_reason(alloc, "the file was changed while cargo-edit ran"));
-            };
-            if matches!(staged.way, WriteMethod::Rename(_)) && self.watched.len() < WATCHED {
-                self.watched.push(watched)?;
-            }
+        if let Some(read) = self.texts.get(path)
+            && !is_as_read(rt, staged, *read)?
+        {
+            return Err(found_reason(alloc, CHANGED));
         }
         staged.verified = true;
         self.verified = self.verified.saturating_add(1);
         Ok(())
     }
 
-    /// Writes a file. Behind the last write that is compared the folders are flushed to the disk, and the
-    /// files that were replaced are examined again.
-    pub(crate) fn write<R: Files<File = File> + Alloc<A = Global> + Env>(
+    /// Makes a write ready and compares its file, where that is still to be done. No file changes.
+    pub(crate) fn make_ready<R: Files<File = File> + Alloc<A = Global> + Env>(
         &mut self,
         rt: &R,
         alloc: Global,
@@ -216,84 +242,47 @@ impl Work {
     ) -> StoreResult<()> {
         self.stage(rt, alloc, path, bytes)?;
         self.flush(rt, path)?;
-        if let Err(reason) = self.verify(rt, alloc, path) {
+        let done = self.verify(rt, alloc, path);
+        if done.is_err() {
             self.give_up(rt, path);
-            return Err(reason);
         }
-        let Some(staged) = self.staged.remove(path) else {
-            return Ok(());
-        };
-        self.verified = self.verified.saturating_sub(1);
-        commit(rt, alloc, &staged, bytes, self.process)?;
-        self.record_write(alloc, &staged)?;
-        if self.verified == 0 {
-            return self.finish_writes(rt, alloc);
-        }
-        Ok(())
-    }
-
-    /// Records a write that was made.
-    fn record_write(&mut self, alloc: Global, staged: &Staged) -> StoreResult<()> {
-        let path = String::from_str(alloc, staged.path.as_str())?;
-        self.texts.insert(path, staged.text)?;
-        if matches!(staged.way, WriteMethod::Rename(_)) {
-            self.folders
-                .push(String::from_str(alloc, folder(staged.target.as_str()))?)?;
-        }
-        Ok(())
-    }
-
-    /// Flushes the folders of the files that were replaced, and examines those files again. A folder that
-    /// cannot be flushed is passed over: each file is whole, the old one or the new one.
-    fn finish_writes<R: Files<File = File> + Alloc<A = Global> + Env>(
-        &mut self,
-        rt: &R,
-        alloc: Global,
-    ) -> StoreResult<()> {
-        for folder in self.folders.iter() {
-            if let Ok(file) = File::open(rt, folder.as_str()) {
-                let _ = file.sync_all();
-            }
-        }
-        self.folders.clear();
-        let done = check_replaced_files(rt, alloc, &mut self.watched, self.process);
-        self.watched.clear();
         done
     }
 
-    /// Gives up the writes that are ready and not made.
-    pub(crate) fn unstage<R: Files<File = File> + Alloc<A = Global> + Env>(
+    /// A copy of the path of a write that is ready, made when it was staged.
+    pub(crate) fn take_spare(&mut self, path: &str) -> Option<String> {
+        match self.staged.get_mut(path) {
+            Some(staged) => staged.spare.take(),
+            None => None,
+        }
+    }
+
+    /// Locks folders until the end of the run.
+    pub(crate) fn lock<R: Files<File = File> + Alloc<A = Global> + Eprint>(
         &mut self,
         rt: &R,
         alloc: Global,
-    ) {
-        for staged in self.staged.values() {
-            staged.give_up(rt);
-        }
-        self.staged = BTreeMap::new(alloc);
-        self.paths = BTreeMap::new(alloc);
-        self.open = 0;
-        self.verified = 0;
-        let _ = self.finish_writes(rt, alloc);
+        folders: &[&str],
+    ) -> Result<(), AllocError> {
+        // (a folder that this run has locked already would never be free)
+        self.locked.clear();
+        self.locked = lock_folders(rt, alloc, folders)?;
+        Ok(())
     }
 
-    /// Locks a folder until the end of the run. Where another run has locked it, a message says so,
-    /// and the call waits.
-    pub(crate) fn lock<R: Files<File = File> + Eprint>(
+    /// Removes what killed runs left in a folder, and, once, in the folder for temporary files.
+    pub(crate) fn tidy<R: Files + Alloc<A = Global> + Env + Clone + Drop>(
         &mut self,
         rt: &R,
         alloc: Global,
         folder: &str,
     ) {
-        let Ok(file) = File::open(rt, folder) else {
-            return;
-        };
-        if let Err(TryLockError::WouldBlock) = file.try_lock() {
-            if let Ok(text) = format!(in alloc; "    Blocking waiting for file lock on {folder}") {
-                let _ = rt.eprintln(text);
-            }
-            let _ = file.lock();
+        remove_abandoned_files(rt, alloc, folder, self.process);
+        if !self.is_tidied
+            && let Ok(elsewhere) = temporary_folder(rt, alloc)
+        {
+            self.is_tidied = true;
+            remove_abandoned_files(rt, alloc, elsewhere.as_str(), self.process);
         }
-        let _ = self.locked.push(file);
     }
 }

@@ -53,7 +53,7 @@ pub(crate) fn manifest_path<S: Store>(
     match find(alloc, files, named, current) {
         Ok(path) => {
             if writes {
-                files.lock(alloc, folder(path.as_str()));
+                files.lock(alloc, &[folder(path.as_str())])?;
                 files.tidy(alloc, path.as_str());
             }
             Ok(path)

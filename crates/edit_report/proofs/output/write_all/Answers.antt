@@ -1,9 +1,10 @@
 -- Each write makes one more file complete, and the first failed write stops.
 use Rattle.std.proofs.Common.{◌∙◌, arith, refl, subst}
-use Rattle.edit_report.proofs.ApplyLemmas.{on_failure, stopped_at, written_more, written_none}
+use Rattle.edit_report.proofs.ApplyLemmas.{on_failure, steps_more, steps_none, stopped_at, written_more, written_none}
 use Rattle.edit_report.specs.Applied.{IsWhole, path_of}
 use Rattle.edit_report.specs.declared.output.Output.{Output}
-use Rattle.edit_store.specs.Store.{IsWrittenAtMostOnce, IsWrittenOnce, SameBut}
+use Rattle.edit_store.specs.Store.{IsStepTaken, IsWrittenAtMostOnce, IsWrittenOnce, SameBut}
+use Rattle.edit_store.specs.declared.store.StepKind.TheVariants as step
 use Rattle.edit_report.proofs.output.write_all.Goals as goal
 
 pub returns-in_err-write_output-clause-stopped : goal.returns-in_err-write_output-clause-stopped
@@ -22,6 +23,7 @@ loop-output-init g c = record {
   tells = refl;
   later = omega arith;
   written = written_none (g.S.Store.view c.args.store.now);
+  steps = steps_none (g.S.Store.view c.args.store.now);
   ready = refl;
 }
 
@@ -40,5 +42,10 @@ loop-output-preserved g c =
           c.write_output.ensures.others)
           (subst (λ (o : Output). IsWrittenOnce (path_of o) mid new) c.output-item.is
           c.in_ok-write_output.ensures.once);
+      steps = steps_more step.Write c.args.outputs.now c.loop-output.output-index c.output-item.result
+          (g.S.Store.view c.args.store.now) mid new (omega arith) c.loop-output.invariant.tells
+          c.loop-output.invariant.steps
+          (subst (λ (o : Output). IsStepTaken step.Write (path_of o) mid new) c.output-item.is
+          c.in_ok-write_output.ensures.step);
       ready = c.write_output.ensures.ready ∙ c.loop-output.invariant.ready;
     }

@@ -1,6 +1,6 @@
 use denote.Text.{Utf8}
 use denote.Shadow.{shadow}
-use Rattle.edit_steps.proofs.outputs.written_text.Given as goal
+use Rattle.edit_steps.proofs.output_error.written_text.Given as goal
 
 -- the text between two paths is text
 abbrev pub invariant-loop-output : goal.invariant-loop-output

@@ -1,6 +1,8 @@
 -- Nothing is written before all outputs are staged, flushed and verified.
-use Rattle.std.proofs.Common.{◌∙◌}
-use Rattle.edit_report.proofs.ApplyLemmas.{on_failure, on_failure_more, stopped_early, stopped_since}
+use Rattle.std.proofs.Common.{◌∙◌, ◌++◌}
+use Rattle.edit_report.proofs.ApplyLemmas.{on_failure, on_failure_more, on_success_more, steps_after, stopped_early, stopped_since}
+use Rattle.edit_report.specs.Applied.{steps_at, steps_to_prepare}
+use Rattle.edit_store.specs.declared.store.StepKind.TheVariants as step
 use Rattle.edit_steps.proofs.outputs.stage_and_write.Goals as goal
 
 pub returns-in_err-make_ready-clause-stopped : goal.returns-in_err-make_ready-clause-stopped
@@ -21,3 +23,17 @@ returns-clause-stopped g c =
     (c.verify_all.ensures.writes ∙ c.make_ready.ensures.writes)
     (λ path. c.verify_all.ensures.files path ∙ c.make_ready.ensures.files path))
     c.write_all.ensures.stopped
+
+pub returns-clause-steps : goal.returns-clause-steps
+returns-clause-steps g c =
+    let outputs = c.args.outputs.now in
+    let old = g.S.Store.view c.args.files.now in
+    let ready = g.S.Store.view c.make_ready.new.files in
+    let verified = g.S.Store.view c.verify_all.new.files in
+    let new = g.S.Store.view c.write_all.new.files in
+    on_success_more c.write_all.result _ _ (λ writes.
+    steps_after (steps_to_prepare outputs) (steps_at step.Verify outputs ++ steps_at step.Write outputs)
+    old ready new c.make_ready.ensures.tells c.in_ok-make_ready.ensures.steps
+    (steps_after (steps_at step.Verify outputs) (steps_at step.Write outputs) ready verified new
+    c.verify_all.ensures.tells c.in_ok-verify_all.ensures.steps writes))
+    c.write_all.ensures.steps

@@ -1,8 +1,9 @@
 use Rattle.std.proofs.Common.{◌∙◌, arith, refl, subst}
-use Rattle.edit_report.proofs.ApplyLemmas.{stopped_at, written_more, written_none}
+use Rattle.edit_report.proofs.ApplyLemmas.{steps_more, steps_none, stopped_at, written_more, written_none}
 use Rattle.edit_report.specs.Applied.{IsWhole, path_of}
 use Rattle.edit_report.specs.declared.output.Output.{Output}
-use Rattle.edit_store.specs.Store.{IsWrittenAtMostOnce, IsWrittenOnce, SameBut}
+use Rattle.edit_store.specs.Store.{IsStepTaken, IsWrittenAtMostOnce, IsWrittenOnce, SameBut}
+use Rattle.edit_store.specs.declared.store.StepKind.TheVariants as step
 use Rattle.edit_steps.proofs.outputs.write_all.Goals as goal
 
 pub returns-in-Err-clause-stopped : goal.returns-in-Err-clause-stopped
@@ -21,6 +22,7 @@ loop-output-init g c = record {
   tells = refl;
   later = omega arith;
   written = written_none (g.S.Store.view c.args.files.now);
+  steps = steps_none (g.S.Store.view c.args.files.now);
   ready = refl;
 }
 
@@ -39,5 +41,10 @@ loop-output-preserved g c =
           c.write_output.ensures.others)
           (subst (λ (o : Output). IsWrittenOnce (path_of o) mid new) c.output-item.is
           c.in-Ok.ensures.once);
+      steps = steps_more step.Write c.args.outputs.now c.loop-output.output-index c.output-item.result
+          (g.S.Store.view c.args.files.now) mid new (omega arith) c.loop-output.invariant.tells
+          c.loop-output.invariant.steps
+          (subst (λ (o : Output). IsStepTaken step.Write (path_of o) mid new) c.output-item.is
+          c.in-Ok.ensures.step);
       ready = c.write_output.ensures.ready ∙ c.loop-output.invariant.ready;
     }
