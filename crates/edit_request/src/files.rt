@@ -17,8 +17,21 @@ pub(crate) struct RequestFile {
     pub(crate) text: String,
 }
 
-/// Stores a text in memory.
+/// The error of two texts with one path.
+fn path_error(alloc: Global, path: &str) -> RequestError {
+    match format!(in alloc; "the request has two texts of the path `{path}`") {
+        Ok(message) => malformed_error(alloc, message.as_str()),
+        Err(_) => RequestError::Memory,
+    }
+}
+
+/// Stores a text in memory. Two texts of one path are an error.
 fn put(alloc: Global, store: &mut MemoryStore, path: &str, text: &str) -> Result<(), RequestError> {
+    match store.read(alloc, path) {
+        Ok(None) => {}
+        Ok(Some(_)) => return Err(path_error(alloc, path)),
+        Err(_) => return Err(RequestError::Memory),
+    }
     match store.write(alloc, path, text.as_bytes()) {
         Ok(()) => Ok(()),
         Err(_) => Err(RequestError::Memory),
