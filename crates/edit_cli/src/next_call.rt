@@ -10,7 +10,7 @@ use edit_base::Error;
 use edit_lock::{Lock, adapt_calls, read_calls};
 use edit_report::shell_status;
 use edit_shell::{push_arguments, push_assignment};
-use edit_steps::{RunError, RunResult, absolute_path, at_path, print_error};
+use edit_steps::{RunError, RunResult, absolute_path, at_lock, at_path, print_error};
 use edit_store::Store;
 use std::alloc::{AllocError, Global};
 use std::io;
@@ -107,7 +107,7 @@ fn read_lock<S: Store>(
     };
     match Lock::read(alloc, &bytes) {
         Ok(lock) => Ok(lock),
-        Err(error) => Err(at_path(alloc, error, path.as_str())),
+        Err(error) => Err(at_lock(alloc, error, path.as_str(), &bytes)),
     }
 }
 

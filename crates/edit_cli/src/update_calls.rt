@@ -9,7 +9,7 @@ use clap::{ArgMatches, Command};
 use edit_base::{CargoResult, Error};
 use edit_lock::{Lock, adapt_calls};
 use edit_metadata::Workspace;
-use edit_steps::{RunError, RunResult, absolute_path, at_path, print_error};
+use edit_steps::{RunError, RunResult, absolute_path, at_lock, at_path, print_error};
 use edit_store::Store;
 use edit_upgrade::update::update_calls;
 use edit_upgrade::{Options, UpgradePlan};
@@ -214,7 +214,7 @@ fn calls_text<S: Store>(
     let (bytes, path) = read_file(alloc, current, given.lock, files)?;
     let packages = match locked_packages(alloc, &bytes) {
         Ok(packages) => packages,
-        Err(error) => return Err(at_path(alloc, error, path.as_str())),
+        Err(error) => return Err(at_lock(alloc, error, path.as_str(), &bytes)),
     };
     let lock = Lock::read(alloc, &bytes)?;
     let workspace = Workspace { root, packages };

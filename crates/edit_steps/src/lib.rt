@@ -4,6 +4,7 @@
 
 mod excerpt;
 mod inputs;
+mod lock_fault;
 mod metadata_fault;
 mod output_error;
 mod outputs;
@@ -15,6 +16,7 @@ pub mod upgrade_read;
 mod workspaces;
 
 pub use inputs::at_input;
+pub use lock_fault::at_lock;
 pub use outputs::{stage_outputs, write_outputs};
 pub use paths::absolute_path;
 pub use reread::at_first;

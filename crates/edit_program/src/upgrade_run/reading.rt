@@ -17,7 +17,7 @@ use crate::upgrade_run::upgrade_args::UpgradeArgs;
 use edit_base::Error;
 use edit_lock::Lock;
 use edit_steps::upgrade_read::{Sources, read_sources};
-use edit_steps::{RunResult, absolute_path, at_file, at_path};
+use edit_steps::{RunResult, absolute_path, at_file, at_lock, at_path};
 use edit_store::Store;
 use std::alloc::Global;
 
@@ -67,7 +67,7 @@ fn read_lock_at<S: Store>(
     };
     match Lock::read(alloc, &bytes) {
         Ok(lock) => Ok(lock),
-        Err(error) => Err(at_path(alloc, error, path.as_str())),
+        Err(error) => Err(at_lock(alloc, error, path.as_str(), &bytes)),
     }
 }
 

@@ -23,7 +23,7 @@ returns-clause-error g c =
     let bad = subst (λ (bs : List ℕ). IsMemory e ⊎ ((e ≡ Metadata) × IsNoLock bs)) c.deref.ensures.value
     c.in-Err-read.ensures.error in
     bad_lock c.args.required old (g.S.Store.view c.read.new.self) c.args.current.now c.args.named.now path bytes e
-    c.at_path.result.error at stands bad c.at_path.ensures.error
+    c.at_lock.result.error at stands bad c.at_lock.ensures
 
 pub returns-in-Ok-None-clause-read : goal.returns-in-Ok-None-clause-read
 returns-in-Ok-None-clause-read g c =
@@ -66,7 +66,7 @@ returns-clause-only g c =
     let bad = subst (λ (bs : List ℕ). IsMemory e ⊎ ((e ≡ Metadata) × IsNoLock bs)) c.deref.ensures.value
     c.in-Err-read.ensures.error in
     malformed_lock c.args.required old (g.S.Store.view c.read.new.self) c.args.named.now bytes e
-    c.at_path.result.error bad c.at_path.ensures.error
+    c.at_lock.result.error bad c.at_lock.ensures
 
 pub returns-in-Ok-None-clause-only : goal.returns-in-Ok-None-clause-only
 returns-in-Ok-None-clause-only g c =
