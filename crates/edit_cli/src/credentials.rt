@@ -11,9 +11,10 @@ mod replies;
 mod settings;
 mod verdicts;
 
-use crate::fetch_arguments::{FetchArguments, print_usage, read_arguments};
+use crate::fetch_arguments::{FetchArguments, print_fetch_usage, read_arguments};
 use crate::fetch_plan::{Network, read_network};
 use crate::machine::read_input;
+use crate::parsing::print_usage;
 use answers::push_call;
 use edit_base::paths::join;
 use edit_base::{CargoResult, DeviceCall, Error};
@@ -233,7 +234,7 @@ pub(crate) fn credentials<E: Write>(
     err: &mut E,
 ) -> CargoResult<u8> {
     let Some(arguments) = read_arguments(arguments) else {
-        return Ok(print_usage(name, err));
+        return Ok(print_fetch_usage(rt.alloc(), name, err)?);
     };
     let inputs = read_inputs(rt, &arguments, current, home)?;
     match name {
@@ -254,8 +255,7 @@ pub(crate) fn credential_reply<E: Write>(
     err: &mut E,
 ) -> CargoResult<u8> {
     let &[how @ ("plugin" | "stdout")] = arguments else {
-        let _ = writeln!(err, "Usage: cargo-edit credential-reply plugin|stdout");
-        return Ok(2);
+        return Ok(print_usage("credential-reply plugin|stdout", err));
     };
     let bytes = read_input(rt, LIMIT)?;
     let line = reply_line(rt.alloc(), how, &bytes)?;

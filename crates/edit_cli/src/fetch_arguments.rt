@@ -1,8 +1,9 @@
 //! The arguments of `fetch-plan` and `fetch-store`.
 
-use crate::parsing::{parse_args, print_parse_error};
+use crate::parsing::{parse_args, print_parse_error, print_usage};
 use clap::ArgMatches;
 use edit_base::CargoResult;
+use std::alloc::{AllocError, Global};
 use std::io::Write;
 
 /// The arguments of a subcommand around `curl`.
@@ -51,12 +52,15 @@ pub(crate) fn read_arguments<'a>(arguments: &'a [&'a str]) -> Option<FetchArgume
 }
 
 /// Prints the usage of a subcommand around `curl`, and returns the exit status of a usage error.
-pub(crate) fn print_usage<E: Write>(name: &str, err: &mut E) -> u8 {
-    let _ = writeln!(
-        err,
-        "Usage: cargo-edit {name} --cache DIR --room DIR [--lookups FILE] [--offline] -- UPGRADE-ARGUMENTS.."
-    );
-    2
+pub(crate) fn print_fetch_usage<E: Write>(
+    alloc: Global,
+    name: &str,
+    err: &mut E,
+) -> Result<u8, AllocError> {
+    let usage = format!(in alloc;
+        "{name} --cache DIR --room DIR [--lookups FILE] [--offline] -- UPGRADE-ARGUMENTS.."
+    )?;
+    Ok(print_usage(usage.as_str(), err))
 }
 
 /// The parsed arguments of an upgrade, or the exit status after the message of `clap`. The first argument

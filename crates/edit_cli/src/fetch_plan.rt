@@ -6,7 +6,8 @@ mod git_protocol;
 mod registry_errors;
 
 use crate::fetch_arguments::{
-    FetchArguments, excluded_names, metadata_file, print_usage, read_arguments, upgrade_matches,
+    FetchArguments, excluded_names, metadata_file, print_fetch_usage, read_arguments,
+    upgrade_matches,
 };
 use crate::machine::variable;
 use crate::parsing::filled_args;
@@ -64,7 +65,7 @@ pub(crate) fn fetch_plan<E: Write>(
     err: &mut E,
 ) -> CargoResult<u8> {
     let Some(arguments) = read_arguments(arguments) else {
-        return Ok(print_usage("fetch-plan", err));
+        return Ok(print_fetch_usage(rt.alloc(), "fetch-plan", err)?);
     };
     let args = filled_args(rt.alloc(), "upgrade", arguments.upgrade)?;
     let matches = match upgrade_matches(rt, &args, err)? {

@@ -6,6 +6,7 @@ mod curl_options;
 mod ended;
 
 use crate::machine::read_input;
+use crate::parsing::print_usage;
 use crate::streams::output;
 use curl_lines::CurlLine;
 use curl_options::push_options;
@@ -153,12 +154,6 @@ fn finish_round(rt: &HostRuntime, arguments: Arguments<'_>) -> CargoResult<Strin
         }
         _ => Ok(String::new(rt.alloc())),
     }
-}
-
-/// Prints a usage error, and returns its exit status.
-fn print_usage<E: Write>(usage: &str, err: &mut E) -> u8 {
-    let _ = writeln!(err, "Usage: cargo-edit {usage}");
-    2
 }
 
 /// Runs `fetch-retry`, and returns the exit status: 2 for a usage error.

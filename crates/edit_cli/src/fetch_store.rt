@@ -2,7 +2,7 @@
 
 use crate::credentials::note_answers;
 use crate::fetch_arguments::{
-    FetchArguments, excluded_names, print_usage, read_arguments, upgrade_matches,
+    FetchArguments, excluded_names, print_fetch_usage, read_arguments, upgrade_matches,
 };
 use crate::parsing::filled_args;
 use edit_answers::{
@@ -22,7 +22,7 @@ pub(crate) fn fetch_store<E: Write>(
     err: &mut E,
 ) -> CargoResult<u8> {
     let Some(arguments) = read_arguments(arguments) else {
-        return Ok(print_usage("fetch-store", err));
+        return Ok(print_fetch_usage(rt.alloc(), "fetch-store", err)?);
     };
     let args = filled_args(rt.alloc(), "upgrade", arguments.upgrade)?;
     let matches = match upgrade_matches(rt, &args, err)? {

@@ -14,6 +14,7 @@ mod requirements;
 
 use crate::lock_bounds::addresses::SourceAddresses;
 use crate::lock_bounds::bounded_lock::{BoundFiles, BoundedLock};
+use crate::parsing::print_usage;
 use crate::streams::output;
 use edit_base::CargoResult;
 use edit_lock_bounds::Outcome;
@@ -110,8 +111,8 @@ pub(crate) fn lock_bounds<E: Write>(
     err: &mut E,
 ) -> CargoResult<u8> {
     let Some(files) = bound_files(arguments) else {
-        let _ = writeln!(err, "Usage: cargo-edit {name} {USAGE}");
-        return Ok(2);
+        let usage = format!(in rt.alloc(); "{name} {USAGE}")?;
+        return Ok(print_usage(usage.as_str(), err));
     };
     let mut out = output(rt)?;
     let reports = arguments.iter().any(|argument| *argument == "--report");

@@ -30,6 +30,16 @@ pub(crate) fn parse_args<'a>(
     command.try_get_matches_from(args)
 }
 
+/// Prints that the arguments of a subcommand for the scripts are not accepted, with its usage, and returns
+/// the exit status of a usage error.
+pub(crate) fn print_usage<E: io::Write>(usage: &str, err: &mut E) -> u8 {
+    let _ = writeln!(
+        err,
+        "error: the arguments are not accepted\n\nUsage: cargo-edit {usage}"
+    );
+    2
+}
+
 /// Prints the message of a `clap` error, and returns the exit status: 0 for help and the version, else 2.
 pub(crate) fn print_parse_error<O: io::Write, E: io::Write>(
     error: &clap::Error,

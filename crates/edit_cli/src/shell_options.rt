@@ -1,7 +1,7 @@
 //! The subcommand `shell-options`: the arguments of the scripts in `bin/`, parsed, as text for a shell to
 //! evaluate.
 
-use crate::parsing::filled_args;
+use crate::parsing::{filled_args, print_usage};
 use clap::ArgMatches;
 use clap::error::ErrorKind;
 use edit_base::{CargoResult, Error};
@@ -11,8 +11,8 @@ use edit_words::command;
 use std::alloc::{AllocError, Global};
 use std::io;
 
-/// The usage message for wrong arguments of `shell-options`.
-const USAGE: &str = "Usage: cargo-edit shell-options upgrade|set-version ARGUMENTS..";
+/// The usage of `shell-options`.
+const USAGE: &str = "shell-options upgrade|set-version ARGUMENTS..";
 
 /// What a script does with its arguments.
 #[derive(Clone, Copy)]
@@ -241,8 +241,7 @@ pub(crate) fn shell_options<O: io::Write, E: io::Write>(
             write_options(alloc, subcommand, rest, out, err)
         }
         _ => {
-            let _ = writeln!(err, "{USAGE}");
-            return 2;
+            return print_usage(USAGE, err);
         }
     };
     match written {
