@@ -88,6 +88,18 @@ def outputs(top):
             "index.json", "--update-calls", "metadata.json")
     refused(room, "calls to an index entry", "read or written", "upgrade", "--index-dir", "index", "--update-calls",
             "index/config.json")
+    os.unlink(room.at("Cargo.lock"))
+    os.unlink(room.at(".cargo/config.toml"))
+    os.mkdir(room.at("other"))
+    for name in ["Cargo.lock", "other/Cargo.toml", "member/Cargo.lock", ".cargo/config.toml", ".cargo/config",
+                 "../room/Cargo.lock", "home/config.toml", "index/se/rd"]:
+        os.makedirs(os.path.dirname(room.at(name)), exist_ok=True)
+        refused(room, f"calls to {name}, which does not exist", "read or written as something else", "upgrade",
+                "--manifest-path", "Cargo.toml", "--index-dir", "index", "--update-calls", name,
+                env={"CARGO_HOME": room.at("home")})
+    with socket.socket(socket.AF_UNIX) as bound:
+        bound.bind(room.at("socket"))
+        refused(room, "calls to a socket", "it is a socket", *UPGRADE, "--update-calls", "socket")
     refused(room, "calls to a folder", "it is a folder", *UPGRADE, "--update-calls", "index")
     refused(room, "calls below no folder", "there is no such folder", *UPGRADE, "--update-calls", "none/calls")
     done = room.run(*UPGRADE, "--update-calls", "calls")

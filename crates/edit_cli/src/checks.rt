@@ -6,7 +6,7 @@ use edit_base::paths::{folder, join};
 use edit_steps::absolute_path;
 use std::fs;
 use std::fs::Metadata;
-use std::os::unix::fs::MetadataExt;
+use std::os::unix::fs::{FileTypeExt, MetadataExt};
 
 /// The options that give a file to read.
 const READ: [&str; 6] = [
@@ -25,6 +25,9 @@ const CARGO_NAMES: [&str; 4] = [
     "/.cargo/config.toml",
     "/.cargo/config",
 ];
+
+/// The message for a file that has another use.
+const OTHER_USE: &str = "the file is read or written as something else";
 
 /// The names of a configuration file in the home folder of cargo.
 const HOME_NAMES: [&str; 2] = ["config.toml", "config"];
@@ -52,12 +55,28 @@ fn index_folder<'a>(arguments: &ArgMatches<'a>) -> Option<&'a str> {
     }
 }
 
-/// What is wrong with the paths in the arguments of `upgrade`; `None` where nothing is.
+/// What is wrong with the values of `-p`: a name is missing before `@`, as where a shell variable is unset.
+fn package_fault(rt: &HostRuntime, arguments: &ArgMatches<'_>) -> CargoResult<Option<String>> {
+    for named in arguments.get_strs("package").unwrap_or(&[]) {
+        if named.starts_with('@') {
+            let fault = format!(in rt.alloc();
+                "invalid value '{named}' for '--package <PKGID[@<VERSION>]>': there is no name before `@`"
+            )?;
+            return Ok(Some(fault));
+        }
+    }
+    Ok(None)
+}
+
+/// What is wrong with the names and the paths in the arguments of `upgrade`; `None` if nothing is.
 pub(crate) fn fault_of(
     rt: &HostRuntime,
     arguments: &ArgMatches<'_>,
     folders: Folders<'_>,
 ) -> CargoResult<Option<String>> {
+    if let Some(fault) = package_fault(rt, arguments)? {
+        return Ok(Some(fault));
+    }
     if let Some(named) = index_folder(arguments) {
         let path = join(rt.alloc(), folders.current, named)?;
         if !is_folder(rt, path.as_str()) {
@@ -107,7 +126,8 @@ fn is_parted(arguments: &ArgMatches<'_>, current: &str) -> bool {
     }
 }
 
-/// What is wrong with an existing file or folder at the path of the file for the calls.
+/// What is wrong with the path of the file for the calls, in a folder that exists: what is there already, or
+/// that cargo has a file of this name.
 fn place_fault(
     rt: &HostRuntime,
     arguments: &ArgMatches<'_>,
@@ -115,15 +135,50 @@ fn place_fault(
     path: &str,
 ) -> CargoResult<Option<&'static str>> {
     let Ok(found) = fs::metadata(rt, path) else {
-        return Ok(None);
+        let is_taken = is_absent_input(rt, arguments, folders, path)?;
+        return Ok(is_taken.then_some(OTHER_USE));
     };
     if found.is_dir() {
         return Ok(Some("it is a folder"));
     }
+    if found.file_type().is_socket() {
+        return Ok(Some("it is a socket"));
+    }
     if found.is_file() && is_input(rt, arguments, folders, path, &found)? {
-        return Ok(Some("the file is read or written as something else"));
+        return Ok(Some(OTHER_USE));
     }
     Ok(None)
+}
+
+/// Whether a file that does not exist has a name that cargo has for its files, or lies in the folder of the
+/// index. Links on the way to its folder are followed.
+fn is_absent_input(
+    rt: &HostRuntime,
+    arguments: &ArgMatches<'_>,
+    folders: Folders<'_>,
+    path: &str,
+) -> CargoResult<bool> {
+    let name = path.strip_prefix(folder(path)).unwrap_or(path);
+    let mut real = real_path(rt, folder(path))?;
+    if !name.starts_with('/') && !real.ends_with('/') {
+        real.push('/')?;
+    }
+    real.push_str(name)?;
+    if CARGO_NAMES.iter().any(|name| real.ends_with(*name)) {
+        return Ok(true);
+    }
+    if let Some(home) = folders.home {
+        let home = real_path(rt, home)?;
+        for name in HOME_NAMES {
+            if real == join(rt.alloc(), home.as_str(), name)? {
+                return Ok(true);
+            }
+        }
+    }
+    match index_folder(arguments) {
+        Some(named) => is_below(rt, folders.current, named, real.as_str()),
+        None => Ok(false),
+    }
 }
 
 /// Whether a file is one that cargo or this run reads or writes, under any name.
