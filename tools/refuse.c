@@ -61,6 +61,7 @@ FAILS(int, fchmod, (int file, mode_t mode), (file, mode))
 FAILS(int, flock, (int file, int operation), (file, operation))
 FAILS(int, unlink, (const char *path), (path))
 FAILS(int, rename, (const char *from, const char *to), (from, to))
+FAILS(int, link, (const char *from, const char *to), (from, to))
 FAILS(int, statx, (int at, const char *path, int flags, unsigned mask, struct statx *found), (at, path, flags, mask, found))
 
 int open(const char *path, int flags, ...) {

@@ -4,7 +4,7 @@ import json
 
 TEXT, MAYBE, TRUTH, NUMBER = "a text", "a text or null", "a truth value", "a number or null"
 TEXTS, PLACE, CALLS = "a list of texts", "a place", "a list of lists of texts"
-WHY = ("latest", "compatible", "incompatible", "pinned", "git", "local", "excluded", None)
+WHY = ("latest", "compatible", "incompatible", "pinned", "git", "local", "excluded", "unreadable", None)
 CHANGE = ("explicit", "latest", "compatible", None)
 MEMBERS = {
     "upgrade-row": {"manifest_path": TEXT, "name": TEXT, "rename": MAYBE, "place": PLACE, "old": MAYBE,

@@ -8,6 +8,7 @@ what an undisturbed one does; or it ends with status 1, prints a prefix of that 
 the first manifests in their order raised, the others as they were. No further file is left. What the manifests become was
 worked out by hand (examples/NAME/*.diff)."""
 
+import collections
 import itertools
 import os
 import pathlib
@@ -15,6 +16,8 @@ import subprocess
 import sys
 import tempfile
 from concurrent.futures import ThreadPoolExecutor
+
+from workspaces import Workspace, run
 
 EXAMPLES = pathlib.Path(__file__).resolve().parents[2] / "examples"
 LACK = b"Error: out of memory\n"
@@ -125,8 +128,33 @@ def in_turn(program, library, name, tried):
                     return (number - 1, reported) if reported else sys.exit(f"examples/{name}: no run reported an error")
 
 
+def whole(program, library):
+    """Refuses each request of both commands over three members that change: an error leaves all of them old, since no memory is
+    asked for once the first manifest is moved."""
+    with tempfile.TemporaryDirectory() as room:
+        workspace = Workspace(program, room)
+        for args, new in ((workspace.upgrade(), workspace.raised()), (workspace.set_version("0.2.0"), workspace.bumped())):
+            seen, counts = pathlib.Path(room) / "seen", collections.Counter()
+            for number in itertools.count(1):
+                workspace.reset()
+                seen.unlink(missing_ok=True)
+                environment = {"LD_PRELOAD": library, "REFUSE_AT": str(number), "REFUSE_SEEN": str(seen), "HOME": "/nonexistent"}
+                done = run(args, env=environment)
+                state = workspace.state(workspace.old, new)
+                if not seen.exists():
+                    break
+                counts[done.returncode, state] += 1
+                seen.unlink()
+                if workspace.left() or (done.returncode, state) not in ((0, "111"), (1, "000")):
+                    yield f"{args[1]}, request {number}: status {done.returncode}, {state}, {done.stderr!r}, left {workspace.left()}"
+            print(f"{args[1]} over three members: {dict(counts)}")
+
+
 def main():
     library, program = (str(pathlib.Path(arg).resolve()) for arg in sys.argv[1:3])
+    wrong = list(whole(program, library))
+    if wrong:
+        sys.exit("\n".join(wrong[:20] + [f"{len(wrong)} faults"]))
     for name in ARGUMENTS:
         requests, reported = in_turn(program, library, name, lacked)
         print(f"examples/{name}: {requests} requests for memory refused in turn, of which {reported} are reported")

@@ -22,7 +22,7 @@ use Rattle.edit_upgrade.specs.Inputs.{below}
 use Rattle.edit_upgrade.specs.declared.decision.options.Options.{Options}
 use Rattle.edit_upgrade.specs.declared.upgrade.Warning.{Warning}
 use Rattle.edit_program.specs.CallsFile.{calls_files, due_path, file_of}
-use Rattle.edit_program.specs.DeliveryCauses.{HasBadPackageArg, IsDeliveryCause, LacksNames}
+use Rattle.edit_program.specs.DeliveryCauses.{HasBadPackageArg, IsDeliveryCause, IsNamesError, LacksNames}
 use Rattle.edit_program.specs.Delivered.{AreBothWritten, IsBehind, IsDelivered, IsWrittenAfterPrint, upgrade_outputs_to_write}
 use Rattle.edit_program.specs.Delivery.{Delivery, calls_against}
 use Rattle.edit_lock.specs.Views.{lock_view}
@@ -74,6 +74,14 @@ pub end_cause : (HasFields : List ℕ → Type 0) (d : Delivery) (old new : Stor
 end_cause HasFields d old new e printed (inl memory) = inl (inl memory)
 end_cause HasFields d old new e printed (inr (inl unwritten)) = inr (inl unwritten)
 end_cause HasFields d old new e printed (inr (inr lacks)) = inr (inr (inr (printed, lacks)))
+
+-- after the writes, printing to standard error fails, or names are missing
+pub named_cause : (d : Delivery) (missing : Option Error) (e : Error)
+    → IsNamesError (map string_bytes d.plan.missing.items) missing → (e ≡ Unwritten) ⊎ (missing ≡ Some e)
+    → IsMemory e ⊎ ((e ≡ Unwritten) ⊎ LacksNames d e)
+named_cause d missing e names (inl unwritten) = inr (inl unwritten)
+named_cause d missing e names (inr is) =
+    inr (inr (subst (IsNamesError (map string_bytes d.plan.missing.items)) is names))
 
 -- what is to be written goes to paths of its own
 pub written_differ : (o : Options) (outputs : List Output) → HaveDistinctPaths outputs

@@ -1,18 +1,17 @@
 -- Notes, from their parts.
-use Rattle.std.proofs.Common.{◌≡◌, ◌∙◌, ◌<◌, ◌+◌, ℕ, ℤ, Bool, false, Bor, Option, List, [], ◌∷◌, ◌++◌, ap, get_or, length, map, refl, subst, sym, take}
+use Rattle.std.proofs.Common.{◌≡◌, ◌∙◌, ◌<◌, ◌+◌, ℕ, ℤ, false, Bor, Option, List, [], ◌∷◌, ◌++◌, ap, get_or, length, map, refl, subst, sym, take}
 use Rattle.std.specs.Prelude.{◌==◌, codes}
 use Rattle.std.specs.Io.KnownBytes.{Appends}
 use Rattle.std.specs.List.{flat_map}
 use Rattle.std.proofs.KnownBytes.{Appends-trans}
 use Rattle.std.proofs.lemmas.Bool.{true≢false}
 use Rattle.std.proofs.lemmas.List.{flat_map_more, get_or-map, length-map, take_more}
-use Rattle.edit_upgrade.specs.declared.decision.options.Options.{Options}
 use Rattle.edit_report.specs.declared.row.Row.{Row}
-use Rattle.edit_upgrade.specs.declared.upgrade.UpgradePlan.{UpgradePlan}
+use Rattle.edit_program.specs.Delivery.{Delivery}
 use Rattle.edit_program.specs.Absent.{absent_note}
 use Rattle.edit_program.specs.HeldBackNotes.{held_back_notes}
 use Rattle.edit_program.specs.NameLists.{list_note}
-use Rattle.edit_program.specs.StderrText.{hidden_rows, hidden_note, hidden_text, note, notes, reason_line, warning, message_if}
+use Rattle.edit_program.specs.StderrText.{hidden_rows, hidden_note, hidden_text, is_dry_run_noted, note, notes, reason_line, warning, message_if}
 use Rattle.edit_program.specs.declared.upgrade_output.name_lists.Noun.TheVariants.{Crate}
 
 -- the line of one reason more
@@ -50,18 +49,18 @@ hidden_said v w all items slice text message known are some is said shown =
     ∙ ap (λ n. hidden_note n (hidden_rows n all)) known
 
 -- all notes on a plan
-pub notes_said : (p : UpgradePlan) (apart : List (List ℕ)) (o : Options) (offline : Bool)
-    (a b c d e f g h : Option (List ℕ))
-    → Appends a b (message_if p.pinned_present
+pub notes_said : (n : Delivery) (a b c d e f g h : Option (List ℕ))
+    → Appends a b (message_if n.plan.pinned_present
     (note (codes "Re-run with `--pinned` to upgrade pinned version requirements")))
-    → Appends b c (message_if p.incompatible_present
+    → Appends b c (message_if n.plan.incompatible_present
     (note (codes "Re-run with `--incompatible` to upgrade incompatible version requirements")))
-    → Appends c d (hidden_note o.verbosity (hidden_rows o.verbosity p.rows.items))
-    → Appends d e (list_note (codes "incompatible ranges are required") Crate apart)
-    → Appends e f (message_if o.dry_run (warning (codes "aborting upgrade due to dry run")))
-    → Appends f g (absent_note p o offline) → Appends g h (held_back_notes p o)
-    → Appends a h (notes p apart o offline)
-notes_said p apart o offline a b c d e f g h first second third fourth fifth sixth seventh =
+    → Appends c d (hidden_note n.options.verbosity (hidden_rows n.options.verbosity n.plan.rows.items))
+    → Appends d e (list_note (codes "incompatible ranges are required") Crate n.apart)
+    → Appends e f (message_if (is_dry_run_noted n.options n.presentation.format)
+    (warning (codes "aborting upgrade due to dry run")))
+    → Appends f g (absent_note n.plan n.options n.offline) → Appends g h (held_back_notes n.plan n.options)
+    → Appends a h (notes n)
+notes_said n a b c d e f g h first second third fourth fifth sixth seventh =
     Appends-trans a b h _ _ first (Appends-trans b c h _ _ second
     (Appends-trans c d h _ _ third (Appends-trans d e h _ _ fourth
     (Appends-trans e f h _ _ fifth (Appends-trans f g h _ _ sixth seventh)))))

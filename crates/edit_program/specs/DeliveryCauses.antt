@@ -1,5 +1,5 @@
 -- The causes of errors of printing and writing a plan, and the effect on the files.
-use Rattle.std.specs.Prelude.{◌≡◌, ◌≢◌, ◌⊎◌, ℕ, List, [], true, map, string_bytes}
+use Rattle.std.specs.Prelude.{◌≡◌, ◌≢◌, ◌⊎◌, ℕ, List, [], Option, None, Some, true, map, string_bytes}
 use Rattle.edit_base.specs.declared.errors.DeviceCall.TheVariants as call
 use Rattle.edit_base.specs.declared.errors.Error.{Error}
 use Rattle.edit_base.specs.declared.errors.Error.TheVariants.{DependenciesMissing, Locked, Output as Unwritten}
@@ -17,6 +17,11 @@ abbrev pub AreListedIn : List (List ℕ) → Error → Type 0
 AreListedIn missing (DependenciesMissing list) =
     (list.kind ≡ kind.Dependency) × (map string_bytes list.names.items ≡ missing)
 AreListedIn missing other = ⊥
+
+-- the error for selected names that no entry has: none where there is no such name
+abbrev pub IsNamesError : List (List ℕ) → Option Error → Type 0
+IsNamesError missing None = missing ≡ []
+IsNamesError missing (Some e) = (missing ≢ []) × AreListedIn missing e
 
 -- calls are needed, and a `--package` argument cannot be parsed
 abbrev pub HasBadPackageArg : UpgradePlan → Options → Error → Type 0

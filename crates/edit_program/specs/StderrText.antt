@@ -11,9 +11,11 @@ use Rattle.std.specs.Str.{bytes_eq}
 use Rattle.edit_metadata.specs.declared.input.Input.{Input}
 use Rattle.edit_report.specs.HoldNotes.{hold_notes}
 use Rattle.edit_report.specs.Messages.{message_text}
-use Rattle.edit_report.specs.ShownRows.{is_shown}
+use Rattle.edit_report.specs.ShownRows.{is_shown, is_unreadable}
 use Rattle.edit_report.specs.Table.{name_text, reason_text}
 use Rattle.edit_report.specs.declared.row.Row.{Row}
+use Rattle.edit_shown.specs.declared.presentation.MessageFormat.{MessageFormat}
+use Rattle.edit_shown.specs.declared.presentation.MessageFormat.TheVariants.{Numbered}
 use Rattle.edit_upgrade.specs.UpdateCalls.{Call}
 use Rattle.edit_upgrade.specs.Inputs.{below}
 use Rattle.edit_upgrade.specs.declared.decision.options.Options.{Options}
@@ -81,7 +83,7 @@ message_if due message = if due then message else []
 -- the reasons' texts, sorted by bytes
 abbrev pub reasons : List (List ℕ)
 reasons = codes "compatible" ∷ codes "excluded" ∷ codes "git" ∷ codes "incompatible" ∷ codes "latest"
-    ∷ codes "local" ∷ codes "pinned" ∷ []
+    ∷ codes "local" ∷ codes "pinned" ∷ codes "unreadable" ∷ []
 
 -- the text of a reason in notes: `latest` where the table has no text
 abbrev pub or_latest : List ℕ → List ℕ
@@ -90,7 +92,7 @@ or_latest (c ∷ cs) = c ∷ cs
 
 -- the text of a row's reason in notes
 abbrev pub reason_in_notes : Row → List ℕ
-reason_in_notes row = or_latest (reason_text row.reason)
+reason_in_notes row = if is_unreadable row then codes "unreadable" else or_latest (reason_text row.reason)
 
 -- these names with one more, sorted by bytes, without duplicates
 abbrev pub with_name : List (List ℕ) → List ℕ → List (List ℕ)
@@ -140,25 +142,30 @@ abbrev pub hidden_note : ℤ → List Row → List ℕ
 hidden_note verbosity [] = []
 hidden_note verbosity (row ∷ rows) = note (hidden_text verbosity (row ∷ rows))
 
+-- whether the warning of a dry run is due: not where the rows that would change are only listed
+abbrev pub is_dry_run_noted : Options → MessageFormat → Bool
+is_dry_run_noted options Numbered = false
+is_dry_run_noted options format = options.dry_run
+
 -- the notes on a plan, that on crates in more than one compatible range, the warning that a dry run wrote
 -- nothing, the note on crates missing in the index, and the notes on what was held back for the age of
 -- versions
-abbrev pub notes : UpgradePlan → List (List ℕ) → Options → Bool → List ℕ
-notes plan apart options offline =
-    message_if plan.pinned_present
+abbrev pub notes : Delivery → List ℕ
+notes d =
+    message_if d.plan.pinned_present
     (note (codes "Re-run with `--pinned` to upgrade pinned version requirements"))
-    ++ (message_if plan.incompatible_present
+    ++ (message_if d.plan.incompatible_present
     (note (codes "Re-run with `--incompatible` to upgrade incompatible version requirements"))
-    ++ (hidden_note options.verbosity (hidden_rows options.verbosity plan.rows.items)
-    ++ (list_note (codes "incompatible ranges are required") Crate apart
-    ++ (message_if options.dry_run (warning (codes "aborting upgrade due to dry run"))
-    ++ (absent_note plan options offline
-    ++ held_back_notes plan options)))))
+    ++ (hidden_note d.options.verbosity (hidden_rows d.options.verbosity d.plan.rows.items)
+    ++ (list_note (codes "incompatible ranges are required") Crate d.apart
+    ++ (message_if (is_dry_run_noted d.options d.presentation.format)
+    (warning (codes "aborting upgrade due to dry run"))
+    ++ (absent_note d.plan d.options d.offline
+    ++ held_back_notes d.plan d.options)))))
 
 -- all that standard error has of a plan: the report on each input, the calls, the notes on the crates that
 -- the policy holds, and the other notes
 abbrev pub upgrade_stderr_text : Delivery → List ℕ
 upgrade_stderr_text d =
     input_reports d.options.verbosity d.plan.warnings.items d.inputs (length d.inputs)
-    ++ (call_statuses d.calls
-    ++ (hold_notes d.plan.rows.items d.crates ++ notes d.plan d.apart d.options d.offline))
+    ++ (call_statuses d.calls ++ (hold_notes d.plan.rows.items d.crates ++ notes d))

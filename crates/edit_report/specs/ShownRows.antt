@@ -1,8 +1,9 @@
 -- Which rows a report shows.
-use Rattle.std.specs.Prelude.{List, Bool, true, false, not, ◌&&◌, ◌||◌, Option, Some, ℤ, pos, int_le, option_and_then, string_bytes}
-use Rattle.std.specs.Option.{option_eq}
+use Rattle.std.specs.Prelude.{List, Bool, true, false, not, ◌&&◌, ◌||◌, Option, Some, None, String, ℤ, pos, int_le, option_and_then, string_bytes}
+use Rattle.std.specs.Option.{is_none, option_eq}
 use Rattle.std.specs.Result.{result_ok}
 use Rattle.std.specs.String.{string_eq}
+use Rattle.std.specs.declared.alloc.Global.{Global}
 use Rattle.semver.specs.Parse.{Held, Parts, version_parts}
 use Rattle.edit_report.specs.declared.row.Reason.{Reason}
 use Rattle.edit_report.specs.declared.row.Reason.TheVariants as reason
@@ -35,3 +36,12 @@ is_shown verbosity r =
     int_le (pos 2) verbosity
     || not (option_eq string_eq r.old r.new)
     || (int_le (pos 1) verbosity && (is_held_back r.reason || is_outgrown r))
+
+-- nothing newer was found for a requirement that cannot be parsed, and no version is compatible with it (own)
+abbrev pub is_unread : Option Reason → Option (String Global) → Option (String Global) → Bool
+is_unread (Some reason.Latest) None (Some old) = is_none (requirement_read (string_bytes old))
+is_unread why compatible old = false
+
+-- the row's entry is left unchanged because its requirement cannot be parsed (own)
+abbrev pub is_unreadable : Row → Bool
+is_unreadable r = is_unread r.reason r.compatible r.old

@@ -16,5 +16,5 @@ pub use row::{Change, Reason, Row};
 pub use shell::{
     shell_note, shell_print, shell_status, shell_warn, shell_write_stderr, shell_write_stdout,
 };
-pub use shows::is_row_shown;
+pub use shows::{is_row_shown, is_unreadable};
 pub use table::{name_text, reason_text, table_text, write_table};

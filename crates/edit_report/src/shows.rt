@@ -3,7 +3,7 @@ ghost use Rattle.std.specs.Prelude.{◌≡◌, IfErr, IfOk, not, option_map, str
 ghost use Rattle.std.specs.Result.{result_ok};
 ghost use Rattle.semver.specs.Parse.{version_parts};
 ghost use Rattle.edit_base.specs.Errors.{IsMemory};
-ghost use Rattle.edit_report.specs.ShownRows.{is_held_back, is_outgrown, is_shown, misses};
+ghost use Rattle.edit_report.specs.ShownRows.{is_held_back, is_outgrown, is_shown, is_unreadable, misses};
 ghost use Rattle.edit_version.specs.Requirement.{requirement_read};
 
 use crate::row::{Reason, Row};
@@ -68,4 +68,19 @@ pub fn is_row_shown(alloc: Global, row: &Row, verbosity: i8) -> CargoResult<bool
         return Ok(true);
     }
     is_outgrown(alloc, row)
+}
+
+/// Whether the entry of a row was left unchanged because its requirement cannot be parsed. Such a row has the
+/// reason `Latest`, as if nothing newer were there.
+pub fn is_unreadable(alloc: Global, row: &Row) -> CargoResult<bool>
+    ensures ok { IfOk result (λ b. b ≡ is_unreadable row.now) }
+    ensures error { IfErr result IsMemory }
+{
+    match (row.reason, &row.compatible, &row.old) {
+        (Some(Reason::Latest), None, Some(old)) => {
+            let requirement = read_requirement(alloc, old.as_str())?;
+            Ok(requirement.is_none())
+        }
+        _ => Ok(false),
+    }
 }

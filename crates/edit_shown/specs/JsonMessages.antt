@@ -1,9 +1,10 @@
 -- The messages of `upgrade` and `set-version`: JSON objects, one a line (own; the member `reason` is that of
 -- the messages of cargo: Cargo reference, "External tools", JSON messages).
-use Rattle.std.specs.Prelude.{ℕ, List, [], ◌∷◌, ◌++◌, Bool, Option, Some, None, option_map, codes, string_bytes}
+use Rattle.std.specs.Prelude.{ℕ, List, [], ◌∷◌, ◌++◌, Bool, Option, Some, None, option_map, codes, string_bytes, if◌then◌else◌}
 use Rattle.std.specs.List.{fold}
 use Rattle.serde_json.specs.Data.{Data, Members, boolean, no_members, number, object, put, string, unsigned}
 use Rattle.serde_json.specs.Written.{compact_text}
+use Rattle.edit_report.specs.ShownRows.{is_unreadable}
 use Rattle.edit_report.specs.declared.row.Change.{Change}
 use Rattle.edit_report.specs.declared.row.Change.TheVariants as change
 use Rattle.edit_report.specs.declared.row.Reason.{Reason}
@@ -45,6 +46,10 @@ reason_name (Some reason.GitSource) = Some (codes "git")
 reason_name (Some reason.PathSource) = Some (codes "local")
 reason_name (Some reason.Excluded) = Some (codes "excluded")
 
+-- the text of why a row's requirement was not raised further (own)
+abbrev pub why_name : Row → Option (List ℕ)
+why_name row = if is_unreadable row then Some (codes "unreadable") else reason_name row.reason
+
 -- the text of a kind of change (own)
 abbrev pub change_name : Option Change → Option (List ℕ)
 change_name None = None
@@ -65,7 +70,7 @@ row_members manifest row =
     ∷ (codes "compatible", text_or_null (option_map string_bytes row.compatible))
     ∷ (codes "latest", text_or_null (option_map string_bytes row.latest))
     ∷ (codes "new", text_or_null (option_map string_bytes row.new))
-    ∷ (codes "why", text_or_null (reason_name row.reason))
+    ∷ (codes "why", text_or_null (why_name row))
     ∷ (codes "change", text_or_null (change_name row.change))
     ∷ []
 

@@ -74,11 +74,7 @@ fn print_call<E: io::Write>(alloc: Global, call: &[String], err: &mut E) -> Carg
 }
 
 /// Prints calls, each as a status line with its arguments.
-pub(crate) fn print_calls<E: io::Write>(
-    alloc: Global,
-    calls: &[Vec<String>],
-    err: &mut E,
-) -> CargoResult<()>
+fn print_calls<E: io::Write>(alloc: Global, calls: &[Vec<String>], err: &mut E) -> CargoResult<()>
     ensures text { OnOk result (Appends (E.contents err.old) (E.contents err.new)
         (call_statuses (calls_view calls.now))) }
     ensures error { IfErr result (λ e. IsMemory e ⊎ (e ≡ Output)) }
@@ -87,4 +83,16 @@ pub(crate) fn print_calls<E: io::Write>(
         print_call(alloc, call.as_slice(), err)?;
     }
     Ok(())
+}
+
+/// The calls as text: for each a status line with its arguments.
+pub(crate) fn render_calls(alloc: Global, calls: &[Vec<String>]) -> Result<Vec<u8>, AllocError>
+    ensures { IfOk result (λ text. text.items ≡ call_statuses (calls_view calls.now)) }
+{
+    let mut text = Vec::new(alloc);
+    // (only want of memory stops a write to a vector)
+    match print_calls(alloc, calls, &mut text) {
+        Ok(()) => Ok(text),
+        Err(_) => Err(AllocError),
+    }
 }

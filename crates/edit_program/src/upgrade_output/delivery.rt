@@ -9,10 +9,12 @@ ghost use Rattle.edit_program.specs.Delivery.{delivery_of};
 ghost use Rattle.edit_program.specs.StderrText.{AreWarningsInOrder, upgrade_stderr_text};
 ghost use Rattle.edit_program.specs.Tables.{AreInOrder};
 
-use crate::upgrade_output::calls::{calls_against, calls_of};
+use crate::upgrade_output::calls::{calls_against, calls_of, render_calls};
 use crate::upgrade_output::calls_file::calls_outputs;
-use crate::upgrade_output::plan_checks::{check_lock, upgrade_outputs_to_write};
-use crate::upgrade_output::plan_execution::{carry_out, conclude};
+use crate::upgrade_output::plan_checks::{
+    check_lock, missing_names_error, upgrade_outputs_to_write,
+};
+use crate::upgrade_output::plan_execution::{carry_out, conclude, render_notes};
 use crate::upgrade_output::plan_output::print_plan;
 use crate::upgrade_output::task::DeliveryTask;
 use edit_steps::RunResult;
@@ -57,21 +59,16 @@ pub fn deliver<S: Store, O: io::Write, E: io::Write>(
     let file = outputs.as_slice();
     print_plan(alloc, task, calls, out, err)?;
     check_lock(task.options, task.plan)?;
+    let statuses = render_calls(alloc, calls)?;
+    let notes = render_notes(alloc, task)?;
+    let missing = missing_names_error(alloc, task.plan)?;
     carry_out(
         alloc,
         upgrade_outputs_to_write(task.options, task.plan),
-        calls,
+        statuses.as_slice(),
         file,
         files,
         err,
     )?;
-    conclude(
-        alloc,
-        task.plan,
-        task.apart,
-        task.options,
-        task.crates,
-        task.offline,
-        err,
-    )
+    conclude(missing, notes.as_slice(), err)
 }

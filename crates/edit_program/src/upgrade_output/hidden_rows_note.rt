@@ -4,12 +4,12 @@ ghost use Rattle.edit_base.specs.Errors.{IsMemory};
 ghost use Rattle.edit_program.specs.StderrText.{add_name, hidden_rows, hidden_text, names_of, names_text, or_latest, reason_line, reason_in_notes, rerun, with_name};
 
 use edit_base::CargoResult;
-use edit_report::{Row, is_row_shown, name_text, reason_text};
+use edit_report::{Row, is_row_shown, is_unreadable, name_text, reason_text};
 use std::alloc::{AllocError, Global};
 use std::collections::BTreeSet;
 
 /// The texts of the reasons, sorted by bytes.
-const REASONS: [&str; 7] = [
+const REASONS: [&str; 8] = [
     "compatible",
     "excluded",
     "git",
@@ -17,14 +17,20 @@ const REASONS: [&str; 7] = [
     "latest",
     "local",
     "pinned",
+    "unreadable",
 ];
 
-/// The text of a row's reason in notes, which has `latest` for a row without a reason.
-fn reason_in_notes(row: &Row) -> &'static str
-    ensures { result.now ≡ reason_in_notes row.now }
+/// The text of a row's reason in notes: `latest` where nothing newer was found, and `unreadable` where that is
+/// so because the requirement cannot be parsed.
+fn reason_in_notes(alloc: Global, row: &Row) -> CargoResult<&'static str>
+    ensures ok { IfOk result (λ text. text.now ≡ reason_in_notes row.now) }
+    ensures error { IfErr result IsMemory }
 {
+    if is_unreadable(alloc, row)? {
+        return Ok("unreadable");
+    }
     let text = reason_text(row.reason);
-    if text.is_empty() { "latest" } else { text }
+    Ok(if text.is_empty() { "latest" } else { text })
 }
 
 /// The rows that a report of this verbosity does not show.
@@ -51,7 +57,7 @@ fn add_name(alloc: Global, reason: &str, row: &Row, names: &mut BTreeSet<String>
         ≡ add_name reason.now (map string_bytes names.old.keys) row.now) }
     ensures error { IfErr result IsMemory }
 {
-    if reason_in_notes(row) == reason {
+    if reason_in_notes(alloc, row)? == reason {
         names.insert(name_text(alloc, row)?)?;
     }
     Ok(())

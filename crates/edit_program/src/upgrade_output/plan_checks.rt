@@ -1,8 +1,7 @@
 //! Checks that stop a plan, and the outputs to write.
-ghost use Rattle.std.specs.Prelude.{◌≡◌, ◌≢◌, ◌⊎◌, [], IfErr, IfOk, OnOk, map, string_bytes, true};
+ghost use Rattle.std.specs.Prelude.{◌≡◌, ◌≢◌, [], IfErr, IfOk, OnOk, map, string_bytes, true};
 ghost use Rattle.edit_base.specs.declared.errors.Error.TheVariants.{Locked};
-ghost use Rattle.edit_base.specs.Errors.{IsMemory};
-ghost use Rattle.edit_program.specs.DeliveryCauses.{AreListedIn};
+ghost use Rattle.edit_program.specs.DeliveryCauses.{IsNamesError};
 ghost use Rattle.edit_program.specs.Delivered.{upgrade_outputs_to_write};
 
 use edit_base::{CargoResult, Error, MissingKind, MissingNames};
@@ -33,18 +32,19 @@ fn copied_names(alloc: Global, names: &[String]) -> Result<Vec<String>, AllocErr
     Ok(copies)
 }
 
-/// Fails with `Error::DependenciesMissing` where `--package` arguments select names that no entry has.
-pub(crate) fn check_names(alloc: Global, plan: &UpgradePlan) -> CargoResult<()>
-    ensures ok { OnOk result (map string_bytes plan.now.missing.items ≡ []) }
-    ensures error { IfErr result (λ e. IsMemory e ⊎ ((map string_bytes plan.now.missing.items ≢ [])
-        × AreListedIn (map string_bytes plan.now.missing.items) e)) }
+/// The error `DependenciesMissing`, where `--package` arguments select names that no entry has.
+pub(crate) fn missing_names_error(
+    alloc: Global,
+    plan: &UpgradePlan,
+) -> Result<Option<Error>, AllocError>
+    ensures { IfOk result (λ error. IsNamesError (map string_bytes plan.now.missing.items) error) }
 {
     if plan.missing.is_empty() {
-        return Ok(());
+        return Ok(None);
     }
     let kind = MissingKind::Dependency;
     let names = copied_names(alloc, plan.missing.as_slice())?;
-    Err(Error::DependenciesMissing(MissingNames { kind, names }))
+    Ok(Some(Error::DependenciesMissing(MissingNames { kind, names })))
 }
 
 /// The outputs to write: none with `--dry-run` or `--locked`.

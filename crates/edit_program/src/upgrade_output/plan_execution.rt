@@ -1,5 +1,6 @@
-//! Carries out a plan: writes its outputs, prints the calls that follow, and prints the notes.
-ghost use Rattle.std.specs.Prelude.{◌≡◌, ◌≢◌, ◌≤◌, ◌⊎◌, ◌++◌, [], IfErr, OnErr, OnOk, map, string_bytes};
+//! Carries out a plan: writes its outputs, prints the calls that follow, and prints the notes. These are made
+//! as text before the first output is written, so that want of memory leaves every file unchanged.
+ghost use Rattle.std.specs.Prelude.{◌≡◌, ◌≤◌, ◌⊎◌, ◌++◌, None, Some, IfErr, IfOk, OnErr, OnOk, map, string_bytes};
 ghost use Rattle.std.specs.Io.KnownBytes.{Appends};
 ghost use Rattle.edit_base.specs.Errors.{IsMemory};
 ghost use Rattle.edit_base.specs.declared.errors.DeviceCall.TheVariants as call;
@@ -7,29 +8,27 @@ ghost use Rattle.edit_base.specs.declared.errors.Error.TheVariants.{Output as Un
 ghost use Rattle.edit_report.specs.Applied.{HaveDistinctPaths};
 ghost use Rattle.edit_report.specs.HoldNotes.{hold_notes};
 ghost use Rattle.edit_store.specs.Store.{IsCallError};
-ghost use Rattle.edit_upgrade.specs.Views.{calls_view};
-ghost use Rattle.edit_program.specs.DeliveryCauses.{AreListedIn};
 ghost use Rattle.edit_program.specs.Delivered.{AreBothWritten, HaveStopped};
-ghost use Rattle.edit_program.specs.StderrText.{notes, call_statuses};
+ghost use Rattle.edit_program.specs.Delivery.{delivery_of};
+ghost use Rattle.edit_program.specs.StderrText.{notes};
 
-use crate::upgrade_output::calls::print_calls;
 use crate::upgrade_output::notes::print_notes;
-use crate::upgrade_output::plan_checks::check_names;
-use edit_policy::CratePolicy;
+use crate::upgrade_output::task::DeliveryTask;
+use edit_base::{CargoResult, Error};
 use edit_report::{Output, write_holds};
 use edit_steps::{RunError, RunResult, stage_outputs, write_outputs};
 use edit_store::Store;
-use edit_upgrade::{Options, UpgradePlan};
-use std::alloc::Global;
+use std::alloc::{AllocError, Global};
 use std::io;
+use std::io::Write;
 
 /// Writes outputs, prints the calls of `cargo update`, and writes the file of the calls. That file is
 /// staged first, so that the outputs are unchanged where it cannot be written. An error discards all staged
-/// writes.
+/// writes. Nothing that is printed asks for memory here, since the outputs may be written already.
 pub(crate) fn carry_out<S: Store, E: io::Write>(
     alloc: Global,
     outputs: &[Output],
-    calls: &[Vec<String>],
+    statuses: &[u8],
     file: &[Output],
     files: &mut S,
     err: &mut E,
@@ -40,8 +39,7 @@ pub(crate) fn carry_out<S: Store, E: io::Write>(
     ensures later { (S.view files.old).faults ≤ (S.view files.new).faults }
     ensures written { OnOk result
         (AreBothWritten outputs.now file.now (S.view files.old) (S.view files.new)) }
-    ensures text { OnOk result (Appends (E.contents err.old) (E.contents err.new)
-        (call_statuses (calls_view calls.now))) }
+    ensures text { OnOk result (Appends (E.contents err.old) (E.contents err.new) statuses.now) }
     ensures stopped { OnErr result
         (HaveStopped outputs.now file.now (S.view files.old) (S.view files.new)) }
     ensures error { IfErr result
@@ -50,34 +48,51 @@ pub(crate) fn carry_out<S: Store, E: io::Write>(
 {
     stage_outputs(alloc, file, files)?;
     write_outputs(alloc, outputs, files)?;
-    if let Err(error) = print_calls(alloc, calls, err) {
+    if err.write_all(statuses).is_err() {
         files.unstage(alloc);
-        return Err(RunError::from(error));
+        return Err(RunError::from(Error::Output));
     }
     write_outputs(alloc, file, files)
 }
 
-/// Fails where `--package` arguments select names that no entry has, else prints the notes on the crates that
-/// the policy holds, and on the plan.
+/// Prints the notes on the crates that the policy holds, and on the plan.
+fn print_end<E: io::Write>(alloc: Global, task: &DeliveryTask<'_>, err: &mut E) -> CargoResult<()>
+    ensures text { OnOk result (Appends (E.contents err.old) (E.contents err.new)
+        (hold_notes task.now.plan.now.rows.items task.now.crates.now ++ notes (delivery_of task.now))) }
+    ensures error { IfErr result (λ e. IsMemory e ⊎ (e ≡ Unwritten)) }
+{
+    write_holds(alloc, task.plan.rows.as_slice(), task.crates, err)?;
+    print_notes(alloc, task, err)
+}
+
+/// The notes on the crates that the policy holds, and on the plan, as text.
+pub(crate) fn render_notes(alloc: Global, task: &DeliveryTask<'_>) -> Result<Vec<u8>, AllocError>
+    ensures { IfOk result (λ text. text.items
+        ≡ hold_notes task.now.plan.now.rows.items task.now.crates.now ++ notes (delivery_of task.now)) }
+{
+    let mut text = Vec::new(alloc);
+    // (only want of memory stops a write to a vector)
+    match print_end(alloc, task, &mut text) {
+        Ok(()) => Ok(text),
+        Err(_) => Err(AllocError),
+    }
+}
+
+/// Fails for selected names that no entry has, where this error is given, else prints the notes.
 pub(crate) fn conclude<E: io::Write>(
-    alloc: Global,
-    plan: &UpgradePlan,
-    apart: &[String],
-    options: &Options,
-    crates: &[CratePolicy],
-    offline: bool,
+    missing: Option<Error>,
+    notes: &[u8],
     err: &mut E,
 ) -> RunResult<()>
-    ensures complete { OnOk result (map string_bytes plan.now.missing.items ≡ []) }
-    ensures text { OnOk result (Appends (E.contents err.old) (E.contents err.new)
-        (hold_notes plan.now.rows.items crates.now
-        ++ notes plan.now (map string_bytes apart.now) options.now offline)) }
-    ensures error { IfErr result (λ r. IsMemory r.error ⊎ ((r.error ≡ Unwritten)
-        ⊎ ((map string_bytes plan.now.missing.items ≢ [])
-        × AreListedIn (map string_bytes plan.now.missing.items) r.error))) }
+    ensures complete { OnOk result (missing ≡ None) }
+    ensures text { OnOk result (Appends (E.contents err.old) (E.contents err.new) notes.now) }
+    ensures error { IfErr result (λ r. (r.error ≡ Unwritten) ⊎ (missing ≡ Some r.error)) }
 {
-    check_names(alloc, plan)?;
-    write_holds(alloc, plan.rows.as_slice(), crates, err)?;
-    print_notes(alloc, plan, apart, options, offline, err)?;
-    Ok(())
+    if let Some(error) = missing {
+        return Err(RunError::from(error));
+    }
+    match err.write_all(notes) {
+        Ok(()) => Ok(()),
+        Err(_) => Err(RunError::from(Error::Output)),
+    }
 }

@@ -1,8 +1,11 @@
 //! Constant texts in messages.
-ghost use Rattle.std.specs.Prelude.{◌≡◌, option_map, string_bytes};
+ghost use Rattle.std.specs.Prelude.{◌≡◌, IfErr, IfOk, option_map, string_bytes};
+ghost use Rattle.edit_base.specs.Errors.{IsMemory};
 ghost use Rattle.edit_shown.specs.JsonMessages as spec;
 
-use edit_report::{Change, Reason};
+use edit_base::CargoResult;
+use edit_report::{Change, Reason, Row, is_unreadable};
+use std::alloc::Global;
 
 /// Borrows an optional text.
 pub(crate) fn borrow_optional_text(text: &Option<String>) -> Option<&str>
@@ -15,7 +18,7 @@ pub(crate) fn borrow_optional_text(text: &Option<String>) -> Option<&str>
 }
 
 /// The text of a reason.
-pub(crate) fn reason_name(reason: Option<Reason>) -> Option<&'static str>
+fn reason_name(reason: Option<Reason>) -> Option<&'static str>
     ensures { option_map (λ t. t.now) result ≡ spec.reason_name reason }
 {
     match reason {
@@ -28,6 +31,17 @@ pub(crate) fn reason_name(reason: Option<Reason>) -> Option<&'static str>
         Some(Reason::PathSource) => Some("local"),
         Some(Reason::Excluded) => Some("excluded"),
     }
+}
+
+/// The text of why the requirement of a row was not raised further.
+pub(crate) fn why_name(alloc: Global, row: &Row) -> CargoResult<Option<&'static str>>
+    ensures name { IfOk result (λ name. option_map (λ t. t.now) name ≡ spec.why_name row.now) }
+    ensures error { IfErr result IsMemory }
+{
+    if is_unreadable(alloc, row)? {
+        return Ok(Some("unreadable"));
+    }
+    Ok(reason_name(row.reason))
 }
 
 /// The text of a kind of change.

@@ -6,7 +6,7 @@ ghost use Rattle.edit_shown.specs.JsonMessages.{change_members, file_members, he
 use crate::held_back::HeldBack;
 use crate::json::fields::{Field, Member};
 use crate::json::message_encoding::message;
-use crate::json::message_names::{borrow_optional_text, change_name, reason_name};
+use crate::json::message_names::{borrow_optional_text, change_name, why_name};
 use edit_base::CargoResult;
 use edit_report::Row;
 use std::alloc::Global;
@@ -16,6 +16,7 @@ pub fn row_message<'a>(alloc: Global, manifest: &'a str, row: &'a Row) -> CargoR
     ensures text { IfOk result (λ s. string_bytes s ≡ message_text (row_members manifest.now row.now)) }
     ensures error { IfErr result IsMemory }
 {
+    let why = why_name(alloc, row)?;
     let members = [
         Member {
             key: "reason",
@@ -55,7 +56,7 @@ pub fn row_message<'a>(alloc: Global, manifest: &'a str, row: &'a Row) -> CargoR
         },
         Member {
             key: "why",
-            field: Field::Maybe(reason_name(row.reason)),
+            field: Field::Maybe(why),
         },
         Member {
             key: "change",

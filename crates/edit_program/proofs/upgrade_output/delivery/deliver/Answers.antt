@@ -1,12 +1,13 @@
-use Rattle.std.proofs.Common.{inl, inr, subst}
+use Rattle.std.proofs.Common.{◌∙◌, ap, inl, inr, map, string_bytes, subst}
 use Rattle.std.specs.Io.KnownBytes.{Appends}
 use Rattle.std.proofs.KnownBytes.{Appends-trans}
 use Rattle.std.proofs.lemmas.Result.{IfErr-weaker, on_ok_weaker}
 use Rattle.edit_steps.proofs.ErrorFields.{on_failure, failure_made}
 use Rattle.edit_program.specs.Delivered.{AreBothWritten, HaveStopped}
 use Rattle.edit_program.specs.Delivery.{delivery_of}
+use Rattle.edit_program.specs.DeliveryCauses.{IsNamesError}
 use Rattle.edit_program.specs.StderrText.{call_statuses}
-use Rattle.edit_program.proofs.DeliveryLemmas.{calls_cause, delivered, end_cause, lent_calls, printed_to}
+use Rattle.edit_program.proofs.DeliveryLemmas.{calls_cause, delivered, end_cause, lent_calls, named_cause, printed_to}
 use Rattle.edit_program.proofs.upgrade_output.delivery.deliver.Goals as goal
 
 pub returns-in_err-due-clause-cause : goal.returns-in_err-due-clause-cause
@@ -37,7 +38,8 @@ returns-clause-done g c =
     (lent_calls task.lock task.offline _ _ _ _ c.as_slice-calls.ensures.value c.in_ok-made.ensures
     c.in_ok-due.ensures.calls)
     c.in_ok-print_plan.ensures.shows c.in_ok-check_lock.ensures.ok c.upgrade_outputs_to_write.ensures
-    c.as_slice-file.ensures.value c.in_ok-outputs.ensures.file c.in_ok-carry_out.ensures.written) complete)
+    c.as_slice-file.ensures.value c.in_ok-outputs.ensures.file c.in_ok-carry_out.ensures.written)
+    (subst (IsNamesError (map string_bytes task.plan.now.missing.items)) complete c.in_ok-missing.ensures))
     c.conclude.ensures.complete
 
 pub returns-clause-stopped : goal.returns-clause-stopped
@@ -61,10 +63,11 @@ returns-clause-content g c =
     on_ok_weaker c.conclude.result
     (λ notes. Appends-trans a b e _ _ c.in_ok-print_plan.ensures.checks
     (Appends-trans b d e _ _
-    (subst (λ calls. Appends b d (call_statuses calls))
-    (lent_calls task.lock task.offline _ _ _ _ c.as_slice-calls.ensures.value c.in_ok-made.ensures
-    c.in_ok-due.ensures.calls)
-    c.in_ok-carry_out.ensures.text) notes))
+    (subst (Appends b d) (c.as_slice.ensures.value ∙ c.in_ok-statuses.ensures
+    ∙ ap call_statuses (lent_calls task.lock task.offline _ _ _ _ c.as_slice-calls.ensures.value
+    c.in_ok-made.ensures c.in_ok-due.ensures.calls))
+    c.in_ok-carry_out.ensures.text)
+    (subst (Appends d e) (c.as_slice-2.ensures.value ∙ c.in_ok-notes.ensures) notes)))
     c.conclude.ensures.text
 
 pub returns-clause-cause : goal.returns-clause-cause
@@ -74,10 +77,11 @@ returns-clause-cause g c =
     let old = g.S.Store.view c.args.files.now in
     let new = g.S.Store.view c.carry_out.new.files in
     IfErr-weaker c.conclude.result _ _
-    (λ r. end_cause HasFields (delivery_of task) old new r.error
+    (λ r known. end_cause HasFields (delivery_of task) old new r.error
     (printed_to AreBothWritten HasFields (delivery_of task) old new _ _ _ _
     (lent_calls task.lock task.offline _ _ _ _ c.as_slice-calls.ensures.value c.in_ok-made.ensures
     c.in_ok-due.ensures.calls)
     c.in_ok-print_plan.ensures.shows c.in_ok-check_lock.ensures.ok c.upgrade_outputs_to_write.ensures
-    c.as_slice-file.ensures.value c.in_ok-outputs.ensures.file c.in_ok-carry_out.ensures.written))
+    c.as_slice-file.ensures.value c.in_ok-outputs.ensures.file c.in_ok-carry_out.ensures.written)
+    (named_cause (delivery_of task) _ r.error c.in_ok-missing.ensures known))
     c.conclude.ensures.error

@@ -13,11 +13,11 @@ returns-clause-ok c =
     elim c.if-eq.branch [
       | then-eq+in_ok-name_text+in_ok-insert w ↦
           name_added reason c.args.row.now c.args.names.now.keys c.if-eq.names.keys w.in_ok-name_text.field-0
-          (sym (ap (λ t. bytes_eq t reason) c.reason_in_notes.ensures) ∙ sym c.eq.ensures ∙ w.if-eq.true)
+          (sym (ap (λ t. bytes_eq t reason) c.in_ok-reason_in_notes.ensures.ok) ∙ sym c.eq.ensures ∙ w.if-eq.true)
           w.in_ok-name_text.ensures
           (ap (λ (s : BTreeSet (String Global)). s.keys) w.names-is ∙ w.in_ok-insert.ensures.keys)
       | else-eq w ↦
           name_unchanged reason c.args.row.now c.args.names.now.keys c.if-eq.names.keys
-          (sym (ap (λ t. bytes_eq t reason) c.reason_in_notes.ensures) ∙ sym c.eq.ensures ∙ w.if-eq.false)
+          (sym (ap (λ t. bytes_eq t reason) c.in_ok-reason_in_notes.ensures.ok) ∙ sym c.eq.ensures ∙ w.if-eq.false)
           (ap (λ (s : BTreeSet (String Global)). s.keys) w.names-is)
     ]

@@ -19,8 +19,8 @@ returns-in_err-write_outputs-clause-stopped g c =
     (g.S.Store.view c.stage_outputs.new.files) (g.S.Store.view c.write_outputs.new.files)
     c.stage_outputs.ensures.reads (inl c.in_err-write_outputs.ensures.stopped))
 
-pub returns-in-Err-clause-stopped : goal.returns-in-Err-clause-stopped
-returns-in-Err-clause-stopped g c =
+pub returns-then-is_err-clause-stopped : goal.returns-then-is_err-clause-stopped
+returns-then-is_err-clause-stopped g c =
     all_stopped_after c.args.outputs.now c.args.file.now (g.S.Store.view c.args.files.now)
     (g.S.Store.view c.stage_outputs.new.files) (g.S.Store.view c.unstage.new.self) c.stage_outputs.ensures.reads
     (inr (inl (written_still c.args.outputs.now (g.S.Store.view c.stage_outputs.new.files)
