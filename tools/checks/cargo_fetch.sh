@@ -196,25 +196,32 @@ row_userinfo() {
   ! grep -rl s3cret "$HOME" "$room/tmp" || fail 'a file has it'
 }
 row_prune() {
-  local used validator
+  local used validator number
   fill
   used=$(entry one ot/he/other)
   validator=$(entry one ot/he/other.etag)
+  number=$(stat -c %i "$validator")
   cp "$validator" "$room/validator"
   mkdir -p "$(entry one ol)/d_" "$(entry one ol)/d2" "$cache/.run.left"
   touch -d '91 days ago' "$(entry one ol/d_/old_)" "$(entry one ol/d_/old_.etag)" "$(entry one ol/d2/old2)"
   touch -d '91 days ago' "$used" "$validator"
   touch -d '2 days ago' "$cache/.run.left"
   run 0 upgrade -n
-  # (that a run used an entry shows only by its validator, which the run then wrote anew)
+  # (that a run used an entry shows only by its validator, which then got a new time)
   grep -q '^/one/ot/he/other unchanged ' "$room/requests" || fail 'the entry of other was sent again'
   [ -e "$used" ] || fail 'an entry that this run used is gone'
   [ -e "$validator" ] || fail 'the validator of an entry that this run used is gone'
   same "$room/validator" "$validator"
+  [ "$(stat -c %i "$validator")" = "$number" ] || fail 'a validator with the same bytes was written anew'
+  [ -n "$(find "$validator" -mtime -1)" ] || fail 'the validator of an entry that this run used is as old as before'
   whole
   [ ! -e "$(entry one ol/d_/old_)" ] && [ ! -e "$(entry one ol/d_/old_.etag)" ] || fail 'an entry that was not used for 91 days'
   [ ! -e "$(entry one ol/d2/old2)" ] || fail 'an entry without a validator that was not used for 91 days'
   [ ! -e "$cache/.run.left" ] || fail 'what a killed run left'
+  touch -d '1 hour ago' "$validator"
+  number=$(stat -c %Y "$validator")
+  run 0 upgrade -n
+  [ "$(stat -c %Y "$validator")" = "$number" ] || fail 'the time of a validator that is younger than a day was set'
 }
 
 # Runs cargo in a pseudo-terminal, which is both of its streams; $room/out gets what that terminal gets.

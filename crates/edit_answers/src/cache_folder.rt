@@ -12,7 +12,7 @@ use std::time::{Clock, SystemTime};
 use std::{fs, io};
 
 /// The number of seconds in a day.
-const DAY: u64 = 24 * 60 * 60;
+pub(crate) const DAY: u64 = 24 * 60 * 60;
 
 /// A cache in a folder of this machine. Its contracts do not state what the files hold.
 #[derive(Debug, Drop)]

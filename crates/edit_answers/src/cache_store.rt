@@ -3,18 +3,24 @@ ghost use Rattle.std.specs.Prelude.{◌≡◌, []};
 ghost use Rattle.edit_answers.specs.CacheStore.{cache_faults, cache_view, cache_writes};
 ghost use Rattle.edit_store.specs.Host.{IsHostError};
 
+use crate::cache_folder::DAY;
 use crate::link_store::{LinkStore, copy};
 use edit_base::errors::{CargoResult, DeviceCall, Error};
 use edit_base::paths::folder;
 use edit_store::{Kind, Store};
 use std::alloc::Global;
 use std::fs::{DirBuilder, File, Files, OpenOptions};
-use std::io::{ErrorKind, Write};
+use std::io::{ErrorKind, Read, Write};
 use std::os::unix::fs::{DirBuilderExt, OpenOptionsExt};
+use std::time::{Clock, SystemTime};
 use std::{fs, io};
 
+/// The end of the name of a validator.
+const VALIDATOR: &str = ".etag";
+
 /// The store of the files of a cache: missing folders are created, for their owner only, and files are
-/// replaced atomically. Its contracts do not state what the files hold.
+/// replaced atomically. A validator that has these bytes already only gets a new time. Its contracts do not
+/// state what the files hold.
 #[derive(Debug, Drop)]
 pub struct CacheStore<R> {
     rt: R,
@@ -52,12 +58,17 @@ pub(crate) fn count_fault(failed: &mut u64, call: DeviceCall, error: io::Error) 
     Error::Device(call)
 }
 
-/// Creates the missing folders above a file, for their owner only.
+/// Creates the missing folders above a file, for their owner only: mostly that is the last one alone.
 fn make_folders<R: Files<File = File>>(rt: &R, path: &str) -> io::Result<()> {
-    DirBuilder::new()
-        .recursive(true)
-        .mode(0o700)
-        .create(rt, folder(path))
+    let mut builder = DirBuilder::new();
+    let builder = builder.mode(0o700);
+    match builder.create(rt, folder(path)) {
+        Err(error) if error.kind() == ErrorKind::NotFound => {
+            builder.recursive(true).create(rt, folder(path))
+        }
+        Err(error) if error.kind() == ErrorKind::AlreadyExists => Ok(()),
+        made => made,
+    }
 }
 
 /// Creates an empty file in the folder of another one, and returns it with its path. Names that exist
@@ -89,7 +100,7 @@ fn make_beside<R: Files<File = File>>(
 /// together with the body whose checksum it has.
 fn fill(file: &mut File, path: &str, bytes: &[u8]) -> io::Result<()> {
     file.write_all(bytes)?;
-    if path.ends_with(".etag") {
+    if path.ends_with(VALIDATOR) {
         return Ok(());
     }
     file.sync_data()
@@ -115,13 +126,49 @@ fn replace<R: Files<File = File>>(
     done
 }
 
+/// Whether a file has these bytes. It then counts as written now, in whole days: its time is set where that was
+/// longer ago.
+fn is_renewed<R: Files<File = File> + Clock>(
+    rt: &R,
+    alloc: Global,
+    path: &str,
+    bytes: &[u8],
+) -> io::Result<bool> {
+    let mut file = File::open(rt, path)?;
+    let mut old = Vec::with_capacity(alloc, bytes.len().saturating_add(1))?;
+    file.read_to_end(&mut old)?;
+    if old.as_slice() != bytes {
+        return Ok(false);
+    }
+    let now = SystemTime::now(rt)?;
+    match now.duration_since(file.metadata()?.modified()?) {
+        Ok(age) if age.as_secs() < DAY => {}
+        _ => file.set_modified(now)?,
+    }
+    Ok(true)
+}
+
+/// Stores the bytes of a file.
+fn store<R: Files<File = File> + Clock>(
+    rt: &R,
+    alloc: Global,
+    path: &str,
+    bytes: &[u8],
+    run: u32,
+) -> io::Result<()> {
+    if path.ends_with(VALIDATOR) && matches!(is_renewed(rt, alloc, path, bytes), Ok(true)) {
+        return Ok(());
+    }
+    replace(rt, alloc, path, bytes, run)
+}
+
 /// Creates a hard link to a file, and the missing folders above it.
 fn link<R: Files<File = File>>(rt: &R, from: &str, to: &str) -> io::Result<()> {
     make_folders(rt, to)?;
     fs::hard_link(rt, from, to)
 }
 
-impl<R: Files<File = File> + Alloc<A = Global> + Drop> Store for CacheStore<R> {
+impl<R: Files<File = File> + Alloc<A = Global> + Clock + Drop> Store for CacheStore<R> {
     ghost view = { cache_view };
 
     fn kind(&mut self, _alloc: Global, path: &str) -> CargoResult<Kind> {
@@ -144,7 +191,7 @@ impl<R: Files<File = File> + Alloc<A = Global> + Drop> Store for CacheStore<R> {
 
     fn write(&mut self, alloc: Global, path: &str, bytes: &[u8]) -> CargoResult<()> {
         self.writes.push(String::from_str(alloc, path)?)?;
-        match replace(&self.rt, alloc, path, bytes, self.run) {
+        match store(&self.rt, alloc, path, bytes, self.run) {
             Ok(()) => Ok(()),
             Err(error) => Err(count_fault(&mut self.failed, DeviceCall::Write, error)),
         }
@@ -170,7 +217,7 @@ impl<R: Files<File = File> + Alloc<A = Global> + Drop> Store for CacheStore<R> {
     }
 }
 
-impl<R: Files<File = File> + Alloc<A = Global> + Drop> LinkStore for CacheStore<R> {
+impl<R: Files<File = File> + Alloc<A = Global> + Clock + Drop> LinkStore for CacheStore<R> {
     fn link(&mut self, alloc: Global, from: &str, to: &str) -> CargoResult<bool> {
         match link(&self.rt, from, to) {
             Ok(()) => Ok(true),
