@@ -4,6 +4,7 @@ from dataclasses import dataclass
 from typing import Callable
 
 import manifests
+from fetching import fetching
 from jobs import (OWN_MEMORY, SET_VERSION, blank_lines, collisions, long_manifest, long_text, memory,
                   real_lines, share, short_lines, start, whole_upgrade, writing)
 from measure import DISK, TMPFS
@@ -37,6 +38,9 @@ ROWS = [
         original=0.8),
     Row("workspace-300", "`upgrade -i -n`", whole_upgrade, (300, 300, 100, 300), (6, 40, 2, 6), 1.4,
         original=0.3),
+    Row("fetch-plan", "before curl, all cached", fetching("fetch-plan"), (30, 300, 100, 300), (3, 40, 2, 6), 75, "M"),
+    Row("fetch-store", "after curl, all answered with 304", fetching("fetch-store"), (30, 300, 100, 300), (3, 40, 2, 6),
+        75, "M"),
     Row("short-10000", "`upgrade`, strings, a short line each", short_lines("string"), 10_000, 50, 1.0),
     Row("inline-10000", "`upgrade`, inline tables, a short line each", short_lines("inline"), 10_000, 50),
     Row("blank-10", "`upgrade`, blank index lines", blank_lines, 10_000_000, 10_000),

@@ -22,6 +22,8 @@ def figure_text(value, unit):
     """A figure with its unit."""
     if unit == "%":
         return f"{value:.0f} %"
+    if unit == "M":
+        return f"{value:,.0f} M instructions"
     return f"{value:.2f} of {unit}" if unit in ("peer", "original") else f"{value:.1f} × {unit}"
 
 
