@@ -126,6 +126,24 @@ fn replace<R: Files<File = File>>(
     done
 }
 
+/// The greatest size for which room is reserved before a file is read: curl writes no larger body.
+const RESERVED: u64 = 104_857_600;
+
+/// The bytes of an open file, read into room of its size.
+fn read_file(alloc: Global, file: &mut File) -> io::Result<Vec<u8>> {
+    let size = file.metadata()?.len().min(RESERVED) as usize;
+    // (one byte more, so that the end is found without more room)
+    let mut bytes = Vec::with_capacity(alloc, size.saturating_add(1))?;
+    file.read_to_end(&mut bytes)?;
+    Ok(bytes)
+}
+
+/// The bytes of the file at a path.
+fn read_path<R: Files<File = File>>(rt: &R, alloc: Global, path: &str) -> io::Result<Vec<u8>> {
+    let mut file = File::open(rt, path)?;
+    read_file(alloc, &mut file)
+}
+
 /// Whether a file has these bytes. It then counts as written now, in whole days: its time is set where that was
 /// longer ago.
 fn is_renewed<R: Files<File = File> + Clock>(
@@ -135,9 +153,7 @@ fn is_renewed<R: Files<File = File> + Clock>(
     bytes: &[u8],
 ) -> io::Result<bool> {
     let mut file = File::open(rt, path)?;
-    let mut old = Vec::with_capacity(alloc, bytes.len().saturating_add(1))?;
-    file.read_to_end(&mut old)?;
-    if old.as_slice() != bytes {
+    if read_file(alloc, &mut file)?.as_slice() != bytes {
         return Ok(false);
     }
     let now = SystemTime::now(rt)?;
@@ -181,8 +197,8 @@ impl<R: Files<File = File> + Alloc<A = Global> + Clock + Drop> Store for CacheSt
         }
     }
 
-    fn read(&mut self, _alloc: Global, path: &str) -> CargoResult<Option<Vec<u8>>> {
-        match fs::read(&self.rt, path) {
+    fn read(&mut self, alloc: Global, path: &str) -> CargoResult<Option<Vec<u8>>> {
+        match read_path(&self.rt, alloc, path) {
             Ok(bytes) => Ok(Some(bytes)),
             Err(error) if is_absent(error.kind()) => Ok(None),
             Err(error) => Err(count_fault(&mut self.failed, DeviceCall::Read, error)),
