@@ -144,8 +144,8 @@ fn read_path<R: Files<File = File>>(rt: &R, alloc: Global, path: &str) -> io::Re
     read_file(alloc, &mut file)
 }
 
-/// Whether a file has these bytes. It then counts as written now, in whole days: its time is set where that was
-/// longer ago.
+/// Whether a file has these bytes. It then counts as written now, in whole days: its time is set where that
+/// was longer ago.
 fn is_renewed<R: Files<File = File> + Clock>(
     rt: &R,
     alloc: Global,

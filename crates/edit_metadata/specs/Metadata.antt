@@ -43,7 +43,7 @@ IsText d text = as_str d ≡ Some text
 abbrev pub is_absolute : List ℕ → Bool
 is_absolute path = starts_with nat_eq path (codes "/")
 
--- a path that begins with `/` and has no line end: a call of cargo is stored as lines, and names the root (own)
+-- a path that begins with `/` and has no line end: a call of cargo, stored as lines, names the root (own)
 abbrev pub is_root_path : List ℕ → Bool
 is_root_path path = is_absolute path && not (list_any (λ byte. nat_eq byte 10) path)
 

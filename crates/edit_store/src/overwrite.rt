@@ -1,4 +1,4 @@
-//! Overwrites a file in place: it is opened once, compared on that descriptor, and at once written through it.
+//! Overwrites a file in place: it is opened once, compared on that descriptor, and then written through it.
 use crate::backup::copy_text;
 use crate::reading::{fingerprint_of_file, identity_of};
 use crate::reason::{CHANGED, Reason, StoreResult, moving};
@@ -62,8 +62,8 @@ fn open_unchanged<R: Files<File = File>>(rt: &R, staged: &Staged) -> StoreResult
     Ok((file, end))
 }
 
-/// Opens a file that is to be overwritten; an error where it is not the file that was read. A link at the path
-/// counts as another file.
+/// Opens a file that is to be overwritten; an error where it is not the file that was read. A link at the
+/// path counts as another file.
 fn open_identical<R: Files<File = File>>(rt: &R, staged: &Staged) -> StoreResult<File> {
     let path = staged.paths.target.as_str();
     if !staged.is_old_file(rt, path) {
@@ -77,8 +77,8 @@ fn open_identical<R: Files<File = File>>(rt: &R, staged: &Staged) -> StoreResult
     Ok(file)
 }
 
-/// The length of an open file; an error where its text has changed since it was read. The first write is the next
-/// call, so that an edit of another program is lost only if it is made at the same moment.
+/// The length of an open file; an error where its text has changed since it was read. The first write is the
+/// next call, so that an edit of another program is lost only if it is made at the same moment.
 fn unchanged_length(file: &mut File, staged: &Staged) -> StoreResult<u64> {
     let text = moving(fingerprint_of_file(file))?;
     match staged.old {
@@ -87,8 +87,8 @@ fn unchanged_length(file: &mut File, staged: &Staged) -> StoreResult<u64> {
     }
 }
 
-/// Overwrites an open file of this length. After an error it gets its old text again; where that fails too, the
-/// copy stays, and the error says where.
+/// Overwrites an open file of this length. After an error it gets its old text again; where that fails too,
+/// the copy stays, and the error says where.
 fn overwrite_or_restore<R: Files<File = File>>(
     rt: &R,
     alloc: Global,
@@ -117,8 +117,8 @@ fn restore<R: Files<File = File>>(rt: &R, file: &mut File, copy: &str) -> io::Re
     copy_text(&mut from, file)
 }
 
-/// Overwrites an open file of this length. What goes past its old end is written first, so that a disk without
-/// room for it leaves the old bytes.
+/// Overwrites an open file of this length. What goes past its old end is written first, so that a disk
+/// without room for it leaves the old bytes.
 fn overwrite(file: &mut File, end: u64, bytes: &[u8]) -> io::Result<()> {
     match usize::try_from(end) {
         Ok(end) if end < bytes.len() => {

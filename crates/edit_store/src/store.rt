@@ -34,8 +34,8 @@ pub enum StepKind {
 /// it calls `unstage`.
 pub trait Store {
     /// The model of a store: whether the contents of its files are known, the bytes of the file at each path
-    /// if so, the paths written so far, the steps of writes since the last `unstage`, how often its device has
-    /// failed, and how often a write could not be staged.
+    /// if so, the paths written so far, the steps of writes since the last `unstage`, how often its device
+    /// has failed, and how often a write could not be staged.
     ghost view: { Self → StoreView };
 
     /// Returns the kind of file at a path, following links.

@@ -20,8 +20,8 @@ const REASONS: [&str; 8] = [
     "unreadable",
 ];
 
-/// The text of a row's reason in notes: `latest` where nothing newer was found, and `unreadable` where that is
-/// so because the requirement cannot be parsed.
+/// The text of a row's reason in notes: `latest` where nothing newer was found, and `unreadable` where the
+/// requirement cannot be parsed.
 fn reason_in_notes(alloc: Global, row: &Row) -> CargoResult<&'static str>
     ensures ok { IfOk result (λ text. text.now ≡ reason_in_notes row.now) }
     ensures error { IfErr result IsMemory }
