@@ -1,7 +1,6 @@
 //! Errors as messages in JSON, for `--message-format json`.
 
-use crate::fetch_arguments::read_arguments;
-use crate::parsing::{filled_args, parse_args};
+use cli_machine::{filled_args, parse_args, read_arguments};
 use edit_base::{CargoResult, Error};
 use edit_program::print_failure;
 use edit_request::place_and_excerpt;

@@ -1,59 +1,20 @@
 //! The subcommand `fetch-plan`: lists the index entries that are fetched.
 
-mod configurations;
-mod environment;
-mod git_protocol;
 mod registry_errors;
 
-use crate::fetch_arguments::{
-    FetchArguments, excluded_names, metadata_file, print_fetch_usage, read_arguments,
-    upgrade_matches,
-};
-use crate::machine::variable;
-use crate::parsing::filled_args;
 use clap::ArgMatches;
-use configurations::{all_configs, write_configurations, written_configuration};
+use cli_machine::{
+    FetchArguments, all_configs, excluded_names, filled_args, git_protocol_place, metadata_file,
+    network_settings, print_fetch_usage, read_arguments, upgrade_matches, write_configurations,
+};
 use edit_base::paths::join;
 use edit_base::{CargoResult, DeviceCall, Error};
-use edit_fetch::{Environment, FetchPlan, NetSettings, net_settings};
+use edit_fetch::{FetchPlan, NetSettings};
 use edit_program::run;
-use edit_sources::Config;
-use edit_sources::config::read_configs;
 use edit_store::{HostStore, Store};
-use git_protocol::git_protocol_place;
 use registry_errors::{Definitions, unfetchable_error};
 use std::io::Write;
 use std::str;
-
-/// What decides the transfers of a run beside its lookups.
-#[derive(Drop)]
-pub(crate) struct Network {
-    pub(crate) settings: NetSettings,
-    /// The registries that variables define.
-    pub(crate) environment: Config,
-    /// The configurations of the current folder.
-    pub(crate) configs: Vec<Config>,
-}
-
-/// Reads what decides the transfers of a run for which `fetch-plan` was called.
-pub(crate) fn read_network(
-    rt: &HostRuntime,
-    room: &str,
-    current: &str,
-    home: Option<&str>,
-) -> CargoResult<Network> {
-    let alloc = rt.alloc();
-    let mut files = HostStore::new(rt.clone()?);
-    let environment = written_configuration(rt, &mut files, room)?;
-    let manifest_path = join(alloc, current, "Cargo.toml")?;
-    let configs = read_configs(alloc, &mut files, manifest_path.as_str(), home)?;
-    let settings = settings(rt, &mut files, &configs)?;
-    Ok(Network {
-        settings,
-        environment,
-        configs,
-    })
-}
 
 /// Runs `fetch-plan`, and returns the exit status: the status of `looks` if that is not 0, else 1 if entries
 /// of a registry cannot be fetched, and 2 for a usage error.
@@ -108,7 +69,7 @@ fn plan_upgrade<E: Write>(
     let Ok(text) = str::from_utf8(&text) else {
         return Err(Error::NotUtf8);
     };
-    let mut settings = settings_in(rt, &mut files, current, home)?;
+    let mut settings = network_settings(rt, &mut files, current, home)?;
     settings.offline = settings.offline || arguments.offline;
     write_retries(rt, &mut files, room.as_str(), &settings)?;
     let excluded = excluded_names(matches).unwrap_or(&[]);
@@ -125,18 +86,6 @@ fn plan_upgrade<E: Write>(
     }
     let count = plan_lookups(rt, &mut files, arguments, current, &settings, text)?;
     print_count(rt, count, err)
-}
-
-/// The network settings for a run in a folder.
-fn settings_in(
-    rt: &HostRuntime,
-    files: &mut HostStore<HostRuntime>,
-    current: &str,
-    home: Option<&str>,
-) -> CargoResult<NetSettings> {
-    let manifest_path = join(rt.alloc(), current, "Cargo.toml")?;
-    let configs = read_configs(rt.alloc(), files, manifest_path.as_str(), home)?;
-    settings(rt, files, &configs)
 }
 
 /// Writes how often a failed transfer is tried again into the file `retry` in the folder of this run.
@@ -234,25 +183,4 @@ fn print_count<E: Write>(rt: &HostRuntime, count: Option<usize>, err: &mut E) ->
             Ok(1)
         }
     }
-}
-
-/// The network settings of the environment and of configuration files.
-fn settings(
-    rt: &HostRuntime,
-    files: &mut HostStore<HostRuntime>,
-    configs: &[Config],
-) -> CargoResult<NetSettings> {
-    let offline = variable(rt, "CARGO_NET_OFFLINE")?;
-    let retry = variable(rt, "CARGO_NET_RETRY")?;
-    let timeout = variable(rt, "CARGO_HTTP_TIMEOUT")?;
-    let proxy = variable(rt, "CARGO_HTTP_PROXY")?;
-    let cainfo = variable(rt, "CARGO_HTTP_CAINFO")?;
-    let environment = Environment {
-        offline: offline.as_deref(),
-        retry: retry.as_deref(),
-        timeout: timeout.as_deref(),
-        proxy: proxy.as_deref(),
-        cainfo: cainfo.as_deref(),
-    };
-    net_settings(rt.alloc(), files, &environment, configs)
 }

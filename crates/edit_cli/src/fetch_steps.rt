@@ -1,10 +1,9 @@
 //! Runs the steps before and after curl. With JSON their errors are messages too.
 
-use crate::checks::Folders;
 use crate::failures::{asks_for_json, write_failure, write_printed};
 use crate::fetch_plan::fetch_plan;
-use crate::fetch_store::fetch_store;
-use crate::streams::output;
+use cli_fetch::fetch_store;
+use cli_machine::{Folders, output};
 use edit_base::CargoResult;
 use edit_steps::RunError;
 use std::io::Write;

@@ -1,11 +1,9 @@
 //! The subcommand `lock-plan`: what is needed of the plan of an upgrade to update `Cargo.lock`, as JSON.
 
-use crate::fetch_arguments::upgrade_matches;
 use crate::lock_plan_json::lock_plan_text;
-use crate::parsing::filled_args;
-use crate::streams::{ReportOptions, output, report_errors};
 use crate::unpublished::print_unpublished;
 use clap::ArgMatches;
+use cli_machine::{ReportOptions, filled_args, output, report_errors, upgrade_matches};
 use edit_base::{CargoResult, Error};
 use edit_program::{LockPlan, RunFolders, lock_plan};
 use edit_store::HostStore;

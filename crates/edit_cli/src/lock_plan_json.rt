@@ -1,6 +1,6 @@
-//! The plan of an upgrade as JSON, and read from it, for the steps that bring the lock file up to it.
+//! The plan of an upgrade as JSON, for the steps that bring the lock file up to it.
 
-use edit_base::{CargoResult, Error};
+use edit_base::CargoResult;
 use edit_policy::CratePolicy;
 use edit_program::LockPlan;
 use edit_sources::PublishedBefore;
@@ -11,18 +11,6 @@ use std::alloc::{AllocError, Global};
 
 /// The members of a JSON object.
 type Members = Map<String, Value>;
-
-/// What the calls of `cargo update` depend on, read from a plan.
-#[derive(Drop)]
-pub(crate) struct CallPlan {
-    pub(crate) modified: Vec<String>,
-    pub(crate) git_crates: Vec<String>,
-    pub(crate) packages: Vec<String>,
-    pub(crate) compatible: bool,
-    pub(crate) recursive: Option<bool>,
-    /// Whether versions have to be published by a time.
-    pub(crate) has_time: bool,
-}
 
 /// Adds a member.
 fn put(alloc: Global, members: &mut Members, key: &str, value: Value) -> Result<(), AllocError> {
@@ -180,48 +168,4 @@ pub(crate) fn lock_plan_text(alloc: Global, planned: &LockPlan) -> CargoResult<S
     )?;
     let text = Value::Object(members).to_string(alloc)?;
     Ok(text)
-}
-
-/// The texts at a key; `None` where there are none.
-fn texts_at(alloc: Global, value: &Value, key: &str) -> Result<Option<Vec<String>>, AllocError> {
-    let Some(values) = value.get(key).and_then(Value::as_array) else {
-        return Ok(None);
-    };
-    let mut texts = Vec::new(alloc);
-    for value in values {
-        let Some(text) = value.as_str() else {
-            return Ok(None);
-        };
-        texts.push(String::from_str(alloc, text)?)?;
-    }
-    Ok(Some(texts))
-}
-
-/// Reads a plan; `Error::Metadata` where a text is none.
-pub(crate) fn read_call_plan(alloc: Global, text: &str) -> CargoResult<CallPlan> {
-    let value = match Value::from_str(alloc, text) {
-        Ok(value) => value,
-        Err(error) if error.is_memory() => return Err(Error::Memory),
-        Err(_) => return Err(Error::Metadata),
-    };
-    let modified = texts_at(alloc, &value, "modified")?;
-    let git_crates = texts_at(alloc, &value, "git_crates")?;
-    let packages = texts_at(alloc, &value, "packages")?;
-    let compatible = value.get("compatible").and_then(Value::as_bool);
-    let (Some(modified), Some(git_crates), Some(packages), Some(compatible)) = (
-        modified, git_crates, packages, compatible,
-    ) else {
-        return Err(Error::Metadata);
-    };
-    Ok(CallPlan {
-        modified,
-        git_crates,
-        packages,
-        compatible,
-        recursive: value.get("recursive").and_then(Value::as_bool),
-        has_time: value
-            .get("published_before")
-            .and_then(Value::as_str)
-            .is_some(),
-    })
 }

@@ -1,44 +1,30 @@
 //! The program `cargo-edit`.
 #![tactic(auto)]
 
-mod checks;
-mod color;
-mod credentials;
 mod failures;
-mod fetch_arguments;
 mod fetch_plan;
-mod fetch_retry;
 mod fetch_steps;
-mod fetch_store;
-mod lock_bounds;
 mod lock_plan;
 mod lock_plan_json;
-mod locked_packages;
-mod machine;
-mod next_call;
-mod parsing;
 mod plan;
 mod script_commands;
-mod setting_files;
 mod shell_options;
-mod shell_words;
-mod streams;
 mod unpublished;
-mod update_calls;
 
-use checks::{Folders, fault_of};
 use clap::ArgMatches;
+use cli_machine::{
+    Folders, ReportOptions, cargo_home, errors, fault_of, machine_error, output, report_errors,
+    report_output,
+};
 use edit_base::{CargoResult, Error};
 use edit_program::{RunFolders, try_run};
 use edit_store::HostStore;
 use edit_words::{command, insert_defaults};
 use failures::end_with;
-use machine::{cargo_home, machine_error};
 use script_commands::{run_fileless, run_own};
 use std::io::{ErrorKind, Write};
 use std::process::ExitCode;
 use std::{env, process};
-use streams::{ReportOptions, errors, output, report_errors, report_output};
 
 /// The folders of a run that needs no file.
 const NO_FOLDERS: Folders<'static> = Folders {

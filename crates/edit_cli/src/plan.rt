@@ -1,7 +1,6 @@
 //! The subcommand `plan`: answers a request in JSON on standard input.
 
-use crate::machine::read_input;
-use crate::streams::output;
+use cli_machine::{output, read_input};
 use edit_base::CargoResult;
 use edit_request::answer_request;
 use std::io::Write;

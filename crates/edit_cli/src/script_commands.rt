@@ -1,18 +1,14 @@
 //! The subcommands for the scripts of `cargo upgrade` and `cargo set-version`.
-use crate::checks::Folders;
-use crate::credentials::{credential_reply, credentials};
+
 use crate::failures::print_error_message;
-use crate::fetch_retry::{fetch_retry, fetch_round};
 use crate::fetch_steps::run_step;
-use crate::fetch_store::check_curl;
-use crate::lock_bounds::lock_bounds;
 use crate::lock_plan::print_lock_plan;
-use crate::next_call::next_call;
 use crate::plan;
 use crate::shell_options::shell_options;
-use crate::shell_words::shell_words;
-use crate::streams::{errors, output};
-use crate::update_calls::print_update_calls;
+use cli_credentials::{credential_reply, credentials};
+use cli_fetch::{check_curl, fetch_retry, fetch_round};
+use cli_lockfile::{lock_bounds, next_call, print_update_calls, shell_words};
+use cli_machine::{Folders, errors, output};
 use edit_base::CargoResult;
 use edit_store::HostStore;
 use std::io::Write;

@@ -1,9 +1,9 @@
 //! The subcommand `shell-options`: the arguments of the scripts in `bin/`, parsed, as text for a shell to
 //! evaluate.
 
-use crate::parsing::{filled_args, print_usage};
 use clap::ArgMatches;
 use clap::error::ErrorKind;
+use cli_machine::{filled_args, print_usage};
 use edit_base::{CargoResult, Error};
 use edit_shell::push_assignment;
 use edit_steps::{RunError, RunResult, print_error};
