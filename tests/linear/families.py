@@ -152,6 +152,12 @@ def rows():
     yield Family("hunks of a diff", 8000, lambda n: single(
         b"[dependencies]\n" + b"".join(b'c%d = "1.0"\n' % at + b"# c\n" * 9 for at in range(n)), lines(n),
                                                            ["--diff"]))
+    yield Family("--rows with the number of each row", 10000, lambda n: single(entries(n), lines(n), [
+        "--rows", ",".join(str(number + 1) for number in range(n))]))
+    yield Family("--rows with the name of each row", 8000, lambda n: single(entries(n), lines(n), [
+        "--rows", ",".join(f"c{number}" for number in range(n))]))
+    yield Family("--rows with ranges that overlap", 8000, lambda n: single(entries(n), lines(n), [
+        "--rows", ",".join(f"{number + 1}-{n}" for number in range(n))]))
     yield Family("looks", 10000, lambda n: ({"Cargo.toml": entries(n)},
                                             ["looks", "--manifest-path", f"{HERE}/Cargo.toml"]))
 
@@ -222,6 +228,9 @@ def workspaces():
         root=b"[workspace]\n[workspace.dependencies]\n" + numbered(n, b'c%d = "1.0"\n')))
     yield Family("metadata with arrays 120 deep", 8000, nested)
     yield Family("metadata that name one package again and again", 40000, one_package)
+    yield Family("a policy that holds each crate", 6000, lambda n: upgrade(
+        [entries(n)], lines(n), root=b"[workspace]\n[workspace.metadata.cargo-edit]\n"
+        + numbered(n, b'crates.c%d.hold = "<2"\n')), ("work",))
     yield Family("a configuration with keys of 80 parts", 4000, lambda n: upgrade(
         [PACKAGE + b'x="1.0"\n'], versions(5),
         config=numbered(n, b"a%d." + b".".join([b"a"] * 79) + b"=1\n")))

@@ -1,3 +1,4 @@
 pub mod ChoiceLemmas
+pub mod LookupLemmas
 pub mod PartLemmas
 pub mod ParsingLemmas

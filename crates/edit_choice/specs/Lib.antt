@@ -1,3 +1,4 @@
 pub mod Choices
 pub mod ChosenRows
 pub mod ChoiceTexts
+pub mod ItemLookup

@@ -1,7 +1,6 @@
 //! What chooses rows: numbers, ranges and names.
-ghost use Rattle.std.specs.Prelude.{◌≡◌, IfOk};
-ghost use Rattle.std.specs.List.{list_any};
-ghost use Rattle.edit_choice.specs.Choices.{IsSameChoice, is_chosen_by};
+ghost use Rattle.std.specs.Prelude.{IfOk};
+ghost use Rattle.edit_choice.specs.Choices.{IsSameChoice};
 
 use std::alloc::{AllocError, Global};
 
@@ -34,21 +33,4 @@ impl<'a> RowChoice<'a> {
         copies.extend_from_slice(items)?;
         Ok(RowChoice::Items(copies))
     }
-}
-
-/// Whether an item chooses the row with this number and name.
-pub(crate) fn is_chosen_by(item: RowItem<'_>, number: u64, name: &str) -> bool
-    ensures { result ≡ is_chosen_by item.entry number name.now }
-{
-    match item {
-        RowItem::Numbers(first, last) => first <= number && number <= last,
-        RowItem::Name(chosen) => chosen == name,
-    }
-}
-
-/// Whether one of the items chooses the row with this number and name.
-pub(crate) fn is_chosen(items: &[RowItem<'_>], number: u64, name: &str) -> bool
-    ensures { result ≡ list_any (λ i. is_chosen_by i number name.now) items.now }
-{
-    items.iter().any(|item| is_chosen_by(*item, number, name))
 }

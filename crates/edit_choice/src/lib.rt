@@ -2,6 +2,7 @@
 #![tactic(auto)]
 
 mod chosen;
+mod item_lookup;
 mod items;
 mod parsing;
 

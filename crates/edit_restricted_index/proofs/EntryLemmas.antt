@@ -3,7 +3,6 @@ use Rattle.std.proofs.Common.{◌≡◌, ◌++◌, ◌∷◌, [], ℕ, Bool, Lis
 use Rattle.std.specs.Prelude.{◌&&◌, ◌||◌, String, is_some, not, string_bytes}
 use Rattle.std.specs.Option.{option_map_or}
 use Rattle.std.specs.Str.{bytes_eq}
-use Rattle.std.proofs.Math.Bool.{and-true}
 use Rattle.std.specs.BTreeSet.{BTreeSet, contains_text}
 use Rattle.std.specs.declared.alloc.Global.{Global}
 use Rattle.std.proofs.lemmas.List.Elements.{filter-append}
@@ -14,8 +13,9 @@ use Rattle.edit_policy.specs.Holds.{admits_text, has_hold, passes_hold, passes_h
 use Rattle.edit_policy.specs.declared.policy.CratePolicy.{CratePolicy}
 use Rattle.edit_version.specs.IndexEntry.{IndexEntry}
 use Rattle.edit_version.specs.Requirement.{comparators_of}
+use Rattle.edit_restricted_index.specs.HoldsByName.{HoldMap, has_hold_in, passes_map, said_of}
 use Rattle.edit_restricted_index.specs.RestrictedIndex.{restricted_answer}
-use Rattle.edit_restricted_index.specs.Restrictions.{VersionTest, both_tests, has_version, hold_test, passes, retained_entries}
+use Rattle.edit_restricted_index.specs.Restrictions.{VersionTest, both_tests, has_version, passes, retained_entries}
 use Rattle.edit_restricted_index.specs.VersionTests.{spec_test}
 
 -- texts that are those of packages are one test with them
@@ -75,18 +75,9 @@ unheld_passes (c ∷ cs) name version h =
     (unheld_passes cs name version) h
 
 -- each version passes where no packages are given and no hold is on its crate
-pub all_pass : (specs : Option VersionTest) (crates : List CratePolicy) (name version : List ℕ)
-    → specs ≡ None → has_hold crates name ≡ false
-    → passes (both_tests specs (hold_test crates)) name version ≡ true
-all_pass None [] name version none h = refl
-all_pass None (c ∷ cs) name version none h = unheld_passes (c ∷ cs) name version h
-all_pass (Some test) crates name version none h = cc none
-
--- a version passes where it passes the test of the packages, and the holds
-pub pass_both : (specs : Option VersionTest) (crates : List CratePolicy) (name version : List ℕ)
-    → passes (both_tests specs (hold_test crates)) name version
-    ≡ (passes specs name version && passes_holds crates name version)
-pass_both None [] name version = refl
-pass_both None (c ∷ cs) name version = refl
-pass_both (Some test) [] name version = sym (and-true (test name version))
-pass_both (Some test) (c ∷ cs) name version = refl
+pub all_pass : (specs : Option VersionTest) (holds : Option HoldMap) (name version : List ℕ)
+    → specs ≡ None → has_hold_in holds name ≡ false
+    → passes (both_tests specs (option_map passes_map holds)) name version ≡ true
+all_pass None None name version none h = refl
+all_pass None (Some holds) name version none h = unheld_passes (said_of holds name) name version h
+all_pass (Some test) holds name version none h = cc none

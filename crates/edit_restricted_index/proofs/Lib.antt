@@ -1,2 +1,3 @@
 pub mod RestrictedLemmas
 pub mod EntryLemmas
+pub mod HoldLemmas

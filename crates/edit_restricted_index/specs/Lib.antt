@@ -1,3 +1,4 @@
+pub mod HoldsByName
 pub mod RestrictedIndex
 pub mod Restrictions
 pub mod VersionTests

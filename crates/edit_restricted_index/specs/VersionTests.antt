@@ -4,7 +4,8 @@ use Rattle.std.specs.BTreeSet.{BTreeSet, contains_text}
 use Rattle.std.specs.declared.alloc.Global.{Global}
 use Rattle.edit_lock.specs.LockFile.{spec_of}
 use Rattle.edit_lock.specs.Views.{locked_package_view}
-use Rattle.edit_restricted_index.specs.Restrictions.{VersionTest, both_tests, hold_test, restriction_test}
+use Rattle.edit_restricted_index.specs.HoldsByName.{passes_map}
+use Rattle.edit_restricted_index.specs.Restrictions.{VersionTest, both_tests, restriction_test}
 use Rattle.edit_restricted_index.specs.declared.version_tests.Restriction.{Restriction}
 use Rattle.edit_restricted_index.specs.declared.version_tests.VersionTests.{VersionTests}
 
@@ -14,7 +15,7 @@ spec_test specs name version = contains_text specs (spec_of (record { name = nam
 
 -- the test of a restricted index; none where nothing restricts it (own)
 abbrev pub tests_of : VersionTests → Option VersionTest
-tests_of tests = both_tests (option_map spec_test tests.specs) (hold_test tests.crates.now)
+tests_of tests = both_tests (option_map spec_test tests.specs) (option_map passes_map tests.holds)
 
 -- the test of a restriction; none where it restricts nothing (own)
 abbrev pub test_of : Restriction → Option VersionTest

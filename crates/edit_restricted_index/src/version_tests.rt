@@ -2,12 +2,14 @@
 ghost use Rattle.std.specs.Prelude.{◌≡◌, ◌++◌, ℕ, List, None, IfErr, IfOk, IsTrue, codes, map, option_map, string_bytes, true};
 ghost use Rattle.edit_base.specs.Errors.{IsMemory};
 ghost use Rattle.edit_lock.specs.Views.{locked_package_view};
-ghost use Rattle.edit_restricted_index.specs.Restrictions.{has_version, passes};
+ghost use Rattle.edit_restricted_index.specs.HoldsByName.{has_hold_in, passes_map};
+ghost use Rattle.edit_restricted_index.specs.Restrictions.{has_version, hold_test, passes};
 ghost use Rattle.edit_restricted_index.specs.VersionTests.{spec_test, test_of, tests_of};
 
+use crate::holds_by_name::{HoldsByName, holds_by_name, is_admitted, is_held};
 use edit_base::CargoResult;
 use edit_lock::{LockedPackage, specs_of};
-use edit_policy::{CratePolicy, has_hold, passes_holds};
+use edit_policy::CratePolicy;
 use std::alloc::{AllocError, Global};
 use std::collections::BTreeSet;
 
@@ -37,7 +39,22 @@ impl Restriction<'_> {
 pub(crate) struct VersionTests<'a> {
     /// The packages, each as `NAME@VERSION`; `None` for each version.
     specs: Option<BTreeSet<String>>,
+    /// What a policy says of crates, by name; `None` if it says nothing of any.
+    holds: Option<HoldsByName<'a>>,
+}
+
+/// What a policy says of crates, by name, where it says something of one.
+fn given_holds<'a>(
+    alloc: Global,
     crates: &'a [CratePolicy],
+) -> Result<Option<HoldsByName<'a>>, AllocError>
+    ensures { IfOk result (λ h. option_map passes_map h ≡ hold_test crates.now) }
+{
+    if crates.is_empty() {
+        return Ok(None);
+    }
+    let holds = holds_by_name(alloc, crates)?;
+    Ok(Some(holds))
 }
 
 /// Some packages, each as `NAME@VERSION`, where packages are given.
@@ -87,15 +104,25 @@ impl<'a> VersionTests<'a> {
         ensures { IfOk result (λ t. tests_of t ≡ test_of restriction.entry) }
     {
         let specs = given_specs(alloc, restriction.locked)?;
-        let crates = restriction.crates;
-        Ok(VersionTests { specs, crates })
+        let holds = given_holds(alloc, restriction.crates)?;
+        Ok(VersionTests { specs, holds })
+    }
+
+    /// Whether a policy has a hold on the crate of this name.
+    fn has_hold(&self, name: &str) -> bool
+        ensures { result ≡ has_hold_in self.now.holds name.now }
+    {
+        match &self.holds {
+            Some(holds) => is_held(holds, name),
+            None => false,
+        }
     }
 
     /// Whether nothing restricts the versions of a crate.
     pub(crate) fn passes_all(&self, name: &str) -> bool
         ensures { IsTrue result → (version : List ℕ) → passes (tests_of self.now) name.now version ≡ true }
     {
-        self.specs.is_none() && !has_hold(self.crates, name)
+        self.specs.is_none() && !self.has_hold(name)
     }
 
     /// Whether a version of a crate passes.
@@ -108,6 +135,9 @@ impl<'a> VersionTests<'a> {
                 return Ok(false);
             }
         }
-        passes_holds(alloc, self.crates, name, version)
+        match &self.holds {
+            Some(holds) => is_admitted(alloc, holds, name, version),
+            None => Ok(true),
+        }
     }
 }

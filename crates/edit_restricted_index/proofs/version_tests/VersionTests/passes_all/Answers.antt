@@ -20,6 +20,6 @@ does_not_hold false h = refl
 pub returns-then-is_none : goal.returns-then-is_none
 returns-then-is_none c = λ unheld version.
     let tests = c.args.self.now in
-    all_pass (option_map spec_test tests.specs) tests.crates.now c.args.name.now version
+    all_pass (option_map spec_test tests.specs) tests.holds c.args.name.now version
     (no_specs tests.specs (c.is_none.ensures ∙ ap not c.if-is_none.true))
     (sym c.has_hold.ensures ∙ does_not_hold c.has_hold.result unheld)
