@@ -14,8 +14,8 @@ bounds() { # SUBCOMMAND [--report]
 # to.
 is_bounded() { ! grep -q '"chosen":\[\],.*"holds":\[\],.*"published_before":null' "$room/lock-plan"; }
 
-# Fetches the index entries of changed packages to ROOM/more, except those that the upgrade has fetched
-# already.
+# Fetches the index entries of changed packages, except those that the upgrade has fetched already, and lists
+# them in ROOM/more/index.
 fetch_more() { # ARGUMENT..
     bounds lock-lookups > "$room/changed" 2> "$room/faults" || unfit "$room/faults"
     grep -v -x -F -f "$room/lookups" "$room/changed" > "$room/wanted"

@@ -92,8 +92,9 @@ check_cargo() {
     esac
 }
 
-# Fetches the index entries that the upgrade with these arguments needs, to the folder of the run. If
-# cargo's settings say offline, nothing is fetched, and the entries come from the cache.
+# Fetches the index entries that the upgrade with these arguments needs, to the cache, and lists them in the
+# file `index` of the folder of the run. If cargo's settings say offline, nothing is fetched, and the entries
+# come from the cache.
 fetch_entries() { # ARGUMENT..
     stored=$offline
     run_process plan_entries "$@" > "$room/count" || {
@@ -112,15 +113,16 @@ fetch_entries() { # ARGUMENT..
     warn_of_formats
 }
 
-# Warns of index lines in a format that cargo does not know and therefore ignores.
+# Warns of index lines in a format that cargo does not know and therefore ignores. (A record of the list of
+# entries ends with the path of its file; its other fields are no files.)
 warn_of_formats() {
-    set -- "$(grep -r -l -E '"v": *([3-9]|[1-9][0-9])' "$room/index" 2> /dev/null |
+    set -- "$(cd "$room" && tr '\t' '\0' < index | xargs -0 grep -l -s -E '"v": *([3-9]|[1-9][0-9])' |
         sed 's,.*/,,' | sort -u | tr '\n' ' ')"
     [ -z "$1" ] ||
         printf 'warning: the index has versions of a format that is too new for cargo: %s\n' "${1% }" | shown >&2
 }
 
-# Fetches the index entries of the lookups in a file, to a folder below the folder of the run.
+# Fetches the index entries of the lookups in a file, and lists them in a folder below the folder of the run.
 fetch_lookups() { # FILE FOLDER ARGUMENT.. of the upgrade
     wanted=$1 own_room=$room room=$2; shift 2
     fetch_entries "$@"

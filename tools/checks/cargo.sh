@@ -155,7 +155,7 @@ unchanged second
 while IFS=: read -r mode answer; do
   echo "$mode" > "$room/mode"
   again
-  if [ "$mode" = partial ]; then find "$cache" -name '*.etag' -delete; fi
+  if [ "$mode" = partial ]; then find "$cache" -type f -exec sed -i '1s/^ETag: .*/ETag: /' {} +; fi
   CARGO_HTTP_TIMEOUT=1 runs 0 upgrade < /dev/null
   raises
   whole | warns

@@ -24,7 +24,7 @@ row_revalidates() {
 # one with --offline use.
 refused_body() { # MODE
   fill
-  find "$cache" -name '*.etag' -delete
+  forget_etags
   mode "$1"
   run 0 upgrade -n
   says_once 'warning: .*dep, other'
@@ -146,12 +146,12 @@ row_exclude_leaves_out() {
   has Cargo.toml 'other = "0.2.0"'
 }
 
-# A validator counts only for the body that it came with: a body that another run wrote, or that a killed run left,
-# is fetched again.
-row_validator_of_another_body() {
+# An ETag counts only for the body that it came with: both are in one file, so that an older file which another run
+# writes, or a killed run left, has its own.
+row_etag_of_another_body() {
   fill
   cp "$(entry one 3/d/dep)" "$room/old"
-  grep -v 1.2.3 "$room/old" > "$room/served/one/3/d/dep.new"
+  grep -v 1.2.3 "$room/served/one/3/d/dep" > "$room/served/one/3/d/dep.new"
   mv "$room/served/one/3/d/dep.new" "$room/served/one/3/d/dep"
   run 0 upgrade -n
   whole
@@ -161,17 +161,38 @@ row_validator_of_another_body() {
   silent '1\.2\.3'
 }
 
-# After a redirect the ETag that curl saved may be that of the answer which redirects, so no validator is stored.
-row_redirected_validator() {
+# After a redirect the ETag that curl saved may be that of the answer which redirects, so none is stored.
+row_redirected_etag() {
   mode "redirect-once $base"
   run 0 upgrade -n
   shown
   whole
-  [ -z "$(find "$cache" -name '*.etag')" ] || fail "a validator: $(find "$cache" -name '*.etag' -exec cat {} +)"
+  [ "$(head -n 1 "$(entry one 3/d/dep)")" = 'ETag: ' ] || fail "an ETag: $(head -n 1 "$(entry one 3/d/dep)")"
   rm "$room/mode" "$room/requests"
   run 0 upgrade -n
   [ "$(grep -c ' sent ' "$room/requests")" = 2 ] || fail 'an entry was not requested again'
-  [ "$(find "$cache" -name '*.etag' | wc -l)" = 2 ] || fail 'an answer without a redirect has no validator'
+  [ "$(grep -r -h -c '^ETag: .' "$(entry one 3/d/dep)" "$(entry one ot/he/other)" | sort -u)" = 1 ] ||
+    fail 'an answer without a redirect has no ETag'
+}
+
+# The cache of an older version of this program has the bodies alone, with validators beside them. Off line they are read;
+# on line they are fetched again, without a word.
+row_older_cache() {
+  local it
+  fill
+  cp "$room/err" "$room/first.err"
+  for it in 3/d/dep ot/he/other; do
+    cp "$room/served/one/$it" "$(entry one "$it")"
+    printf '%s "old"\n' "$(sha256sum < "$room/served/one/$it" | cut -c 1-64)" > "$(entry one "$it.etag")"
+  done
+  run 0 upgrade -n --offline
+  shown
+  rm "$room/requests"
+  run 0 upgrade -n
+  shown
+  same "$room/first.err" "$room/err"
+  [ "$(grep -c ' sent ' "$room/requests")" = 2 ] || fail 'an entry was not requested again'
+  whole
 }
 
 # Only the user can read the cache, and no user name or password of an address gets into it or into a message.
@@ -196,32 +217,32 @@ row_userinfo() {
   ! grep -rl s3cret "$HOME" "$room/tmp" || fail 'a file has it'
 }
 row_prune() {
-  local used validator number
+  local used number
   fill
   used=$(entry one ot/he/other)
-  validator=$(entry one ot/he/other.etag)
-  number=$(stat -c %i "$validator")
-  cp "$validator" "$room/validator"
+  number=$(stat -c %i "$used")
+  cp "$used" "$room/used"
   mkdir -p "$(entry one ol)/d_" "$(entry one ol)/d2" "$cache/.run.left"
   touch -d '91 days ago' "$(entry one ol/d_/old_)" "$(entry one ol/d_/old_.etag)" "$(entry one ol/d2/old2)"
-  touch -d '91 days ago' "$used" "$validator"
+  touch -d '91 days ago' "$used"
   touch -d '2 days ago' "$cache/.run.left"
   run 0 upgrade -n
-  # (that a run used an entry shows only by its validator, which then got a new time)
   grep -q '^/one/ot/he/other unchanged ' "$room/requests" || fail 'the entry of other was sent again'
   [ -e "$used" ] || fail 'an entry that this run used is gone'
-  [ -e "$validator" ] || fail 'the validator of an entry that this run used is gone'
-  same "$room/validator" "$validator"
-  [ "$(stat -c %i "$validator")" = "$number" ] || fail 'a validator with the same bytes was written anew'
-  [ -n "$(find "$validator" -mtime -1)" ] || fail 'the validator of an entry that this run used is as old as before'
+  same "$room/used" "$used"
+  [ "$(stat -c %i "$used")" = "$number" ] || fail 'an entry with the same bytes was written anew'
+  [ -n "$(find "$used" -mtime -1)" ] || fail 'an entry that this run used is as old as before'
   whole
   [ ! -e "$(entry one ol/d_/old_)" ] && [ ! -e "$(entry one ol/d_/old_.etag)" ] || fail 'an entry that was not used for 91 days'
   [ ! -e "$(entry one ol/d2/old2)" ] || fail 'an entry without a validator that was not used for 91 days'
   [ ! -e "$cache/.run.left" ] || fail 'what a killed run left'
-  touch -d '1 hour ago' "$validator"
-  number=$(stat -c %Y "$validator")
+  touch -d '1 hour ago' "$used"
+  number=$(stat -c %Y "$used")
   run 0 upgrade -n
-  [ "$(stat -c %Y "$validator")" = "$number" ] || fail 'the time of a validator that is younger than a day was set'
+  [ "$(stat -c %Y "$used")" = "$number" ] || fail 'the time of an entry that is younger than a day was set'
+  touch -d '2 days ago' "$used"
+  run 0 upgrade -n --offline
+  [ -n "$(find "$used" -mtime -1)" ] || fail 'an entry that a run off line used is as old as before'
 }
 
 # Runs cargo in a pseudo-terminal, which is both of its streams; $room/out gets what that terminal gets.
@@ -384,31 +405,50 @@ os.execvp("cargo-upgrade", ["cargo-upgrade", "upgrade"])' > "$room/out" 2> "$roo
   done
   unwritten
 }
-# A damaged entry in the cache is no entry: a warning names its file and the line, and it is fetched again without
-# a validator.
+# A damaged entry in the cache is an error, which names its file and the line, and what to do: then it is fetched again.
 row_damaged_entry() {
-  local damaged
+  local damaged option
   fill
   damaged=$(entry one 3/d/dep)
-  printf '\nnothing\n' > "$damaged"
-  run 0 upgrade -n --offline
-  says "warning: the cached index entry $damaged:2 "
-  says_once '^warning: no index entries of .* dep '
-  silent '[.]run[.]'
-  silent '^dep '
-  grep -q '^other .* 0[.]2[.]5 ' "$room/out" || fail 'other is not raised'
-  mode down
-  run 1 upgrade
-  says "$damaged:2 "
-  missing '/one/: dep '
-  silent '[.]run[.]'
-  unwritten
-  rm "$room/mode" "$room/requests"
+  { head -n 1 "$damaged"; printf '\nnothing\n'; } > "$room/damaged"
+  cp "$room/damaged" "$damaged"
+  for option in -n --offline; do
+    run 1 upgrade "$option"
+    says_once '^Error: Invalid index line 3$'
+    says "  at $damaged:3"
+    says '  help: remove this file of the cache: it is fetched again'
+    silent '[.]run[.]'
+    unwritten
+  done
+  run 1 upgrade --message-format json
+  grep -q -F "\"place\":\"$damaged:3\"" "$room/out" || fail 'the message does not name the file'
+  rm "$damaged"
+  rm "$room/requests"
   run 0 upgrade
   raised
   whole
   grep -q '^/one/3/d/dep sent ' "$room/requests" || fail 'the entry is not fetched again'
-  lacks "$room/err" "$damaged"
+}
+
+# Entries are read where they are: the folder of a run has no copy of them and no link to them.
+row_no_copies() {
+  local tool
+  fill
+  mkdir "$room/noted"
+  tool=$(command -v cargo-edit)
+  cat > "$room/prefix/bin/cargo-edit.new" << NOTED
+#!/bin/sh
+case \$1 in upgrade) find "$cache" -path '*/.run.*' > "$room/noted/files" ;; esac
+exec "$tool.real" "\$@"
+NOTED
+  cp "$tool" "$tool.real"
+  chmod 755 "$room/prefix/bin/cargo-edit.new"
+  mv "$room/prefix/bin/cargo-edit.new" "$tool"
+  run 0 upgrade -n
+  mv "$tool.real" "$tool"
+  shown
+  [ -s "$room/noted/files" ] || fail 'the files of the run are not noted'
+  ! grep -E '/(3/d/dep|ot/he/other)$' "$room/noted/files" || fail 'the run has its own files of entries'
 }
 
 all_rows

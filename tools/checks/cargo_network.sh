@@ -132,7 +132,7 @@ row_malformed_line() {
   unwritten
   rm "$room/mode"
   run 0 upgrade -n
-  find "$cache" -name '*.etag' -delete
+  forget_etags
   mode 'malformed dep'
   run 0 upgrade -n
   shown

@@ -26,12 +26,13 @@ END_OF_PYTHON
 newest() { # this run shows it
   run 0 upgrade -n
   grep -q -E "^dep +1\.0 .* 1\.$((published + 2)) " "$room/out" || fail "version 1.$((published + 2)).0 is not shown"
-  cmp -s "$room/served/one/3/d/dep" "$(entry one 3/d/dep)" || fail 'the cached entry is not the newest'
+  body_of "$(entry one 3/d/dep)" | cmp -s "$room/served/one/3/d/dep" - || fail 'the cached entry is not the newest'
 }
 whole() { # the cached entry is one that the registry had
   local body
   [ -f "$(entry one 3/d/dep)" ] || return 0
-  for body in "$room"/bodies/*; do if cmp -s "$body" "$(entry one 3/d/dep)"; then return 0; fi; done
+  body_of "$(entry one 3/d/dep)" > "$room/had"
+  for body in "$room"/bodies/*; do if cmp -s "$body" "$room/had"; then return 0; fi; done
   fail 'the cached entry is none that the registry had'
 }
 
@@ -77,7 +78,7 @@ row_older_one_stores_last() {
   whole
   newest
 }
-# The same, where the run with the newer body is held between its body and its validator, if it moves them one by one.
+# The same, where the run with the newer body is held while it stores that, if it uses `mv`.
 row_mixed_answers() {
   local older newer
   publish
@@ -174,12 +175,12 @@ row_full_disk() {
         *) fail "$size kB: status $status" ;;
       esac
       [ -z "$(find "$room/copy" -name '.run*')" ] || fail "$size kB: the folder of the run is left"
-      find "$room/copy" -type f ! -name '*.etag' ! -name '.*' > "$room/entries"
+      find "$room/copy" -type f ! -name '.*' > "$room/entries"
       while IFS= read -r entry; do
         case $entry in
           */3/d/dep)
-            for body in "$room"/bodies/*; do if cmp -s "$body" "$entry"; then continue 2; fi; done ;;
-          */ot/he/other) if cmp -s "$room/served/one/ot/he/other" "$entry"; then continue; fi ;;
+            for body in "$room"/bodies/*; do if body_of "$entry" | cmp -s "$body" -; then continue 2; fi; done ;;
+          */ot/he/other) if body_of "$entry" | cmp -s "$room/served/one/ot/he/other" -; then continue; fi ;;
         esac
         fail "$size kB: $entry is none that the registry had"
       done < "$room/entries"

@@ -1,5 +1,6 @@
 //! The subcommands that find the tokens of registries: `credential-probes`, `credential-request`,
 //! `credential-reply` and `fetch-config`.
+ghost use Rattle.std.specs.Prelude.{◌≡◌, ◌⊎◌, ◌≤◌, IfOk};
 
 use crate::answers::push_call;
 use crate::notes::write_notes;
@@ -13,13 +14,14 @@ use cli_machine::{
     FetchArguments, Network, print_fetch_usage, print_usage, read_arguments, read_input,
     read_network,
 };
+use edit_answers::CacheStore;
 use edit_base::paths::join;
 use edit_base::{CargoResult, DeviceCall, Error};
 use edit_fetch::{FetchPlan, Token};
 use edit_lookups::{Lookup, read_lookups};
 use edit_store::{HostStore, Store};
 use std::io::Write;
-use std::str;
+use std::{process, str};
 
 /// The greatest number of bytes that are read from a provider.
 const LIMIT: u64 = 8192;
@@ -79,7 +81,9 @@ fn fetched_lookups<'a>(rt: &HostRuntime, inputs: &'a Inputs) -> CargoResult<Vec<
 }
 
 /// Writes a text to standard output.
-fn print_text(rt: &HostRuntime, text: &[u8]) -> CargoResult<u8> {
+fn print_text(rt: &HostRuntime, text: &[u8]) -> CargoResult<u8>
+    ensures status { IfOk result (λ s. s ≡ 0) }
+{
     match rt.stdout().write_all(text) {
         Ok(()) => Ok(0),
         Err(_) => Err(Error::Output),
@@ -103,7 +107,9 @@ fn probed_registries(
 
 /// Prints curl's configuration to fetch `config.json` of each registry for which there may be a token. The
 /// files go to the folder `probes` in the folder of the run.
-fn print_probes(rt: &HostRuntime, inputs: &Inputs) -> CargoResult<u8> {
+fn print_probes(rt: &HostRuntime, inputs: &Inputs) -> CargoResult<u8>
+    ensures status { IfOk result (λ s. s ≡ 0) }
+{
     let lookups = fetched_lookups(rt, inputs)?;
     let probed = probed_registries(rt, inputs, &lookups)?;
     let text = probes_config(rt, inputs.room.as_str(), &inputs.network.settings, &probed)?;
@@ -121,7 +127,9 @@ fn input_text(rt: &HostRuntime) -> CargoResult<String> {
 
 /// Prints the next call of a provider, as text for a shell, given the answers so far on standard input;
 /// nothing if no further provider has to be run.
-fn print_request(rt: &HostRuntime, inputs: &Inputs) -> CargoResult<u8> {
+fn print_request(rt: &HostRuntime, inputs: &Inputs) -> CargoResult<u8>
+    ensures status { IfOk result (λ s. s ≡ 0) }
+{
     let text = input_text(rt)?;
     let replies = read_replies(rt, text.as_str())?;
     let lookups = fetched_lookups(rt, inputs)?;
@@ -182,7 +190,9 @@ fn print_config<E: Write>(
     inputs: &Inputs,
     cache: &str,
     err: &mut E,
-) -> CargoResult<u8> {
+) -> CargoResult<u8>
+    ensures status { IfOk result (λ s. s ≤ 1) }
+{
     let text = input_text(rt)?;
     let replies = read_replies(rt, text.as_str())?;
     let lookups = fetched_lookups(rt, inputs)?;
@@ -203,7 +213,7 @@ fn print_config<E: Write>(
         tokens: &tokens,
         withheld: &withheld,
     };
-    let mut files = HostStore::new(rt.clone()?);
+    let mut files = CacheStore::new(rt.clone()?, process::id(rt.process()));
     match edit_fetch::fetch_config(rt.alloc(), &mut files, &plan, inputs.lookups.as_str())? {
         Some(config) => print_text(rt, &config),
         None => {
@@ -222,7 +232,9 @@ pub fn credentials<E: Write>(
     current: &str,
     home: Option<&str>,
     err: &mut E,
-) -> CargoResult<u8> {
+) -> CargoResult<u8>
+    ensures status { IfOk result (λ s. s ≤ 2) }
+{
     let Some(arguments) = read_arguments(arguments) else {
         return Ok(print_fetch_usage(rt.alloc(), name, err)?);
     };
@@ -243,7 +255,9 @@ pub fn credential_reply<E: Write>(
     rt: &HostRuntime,
     arguments: &[&str],
     err: &mut E,
-) -> CargoResult<u8> {
+) -> CargoResult<u8>
+    ensures status { IfOk result (λ s. (s ≡ 0) ⊎ (s ≡ 2)) }
+{
     let &[how @ ("plugin" | "stdout")] = arguments else {
         return Ok(print_usage("credential-reply plugin|stdout", err));
     };

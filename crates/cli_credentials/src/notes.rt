@@ -170,7 +170,8 @@ fn push_answer(
     Ok(())
 }
 
-/// Rewrites the outcomes of transfers with the notes about tokens, if there are notes.
+/// Rewrites the outcomes of transfers with the notes about tokens, if there are notes. Both are files of the
+/// run, so that no clause says what is written.
 pub fn note_answers(rt: &HostRuntime, room: &str) -> CargoResult<()> {
     let mut files = HostStore::new(rt.clone()?);
     let notes = working_file(rt, &mut files, room, "notes")?;

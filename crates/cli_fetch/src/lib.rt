@@ -1,8 +1,8 @@
 //! The steps around curl: which transfers are made again, and what is stored of their answers.
 #![tactic(auto)]
 
-mod fetch_retry;
-mod fetch_store;
+mod rounds;
+mod storing;
 
-pub use fetch_retry::{fetch_retry, fetch_round};
-pub use fetch_store::{check_curl, fetch_store};
+pub use rounds::{fetch_retry, fetch_round};
+pub use storing::{check_curl, fetch_store};

@@ -2,14 +2,14 @@
 //! of `cargo update` are made.
 #![tactic(auto)]
 
+mod bounds;
 mod call_plan;
-mod lock_bounds;
+mod fitted_call;
 mod locked_packages;
-mod next_call;
-mod shell_words;
 mod update_calls;
+mod words;
 
-pub use lock_bounds::lock_bounds;
-pub use next_call::next_call;
-pub use shell_words::shell_words;
+pub use bounds::lock_bounds;
+pub use fitted_call::next_call;
 pub use update_calls::print_update_calls;
+pub use words::shell_words;

@@ -1,9 +1,10 @@
 //! The subcommand `update-calls`: the calls of `cargo update` after an upgrade, for the packages in the
 //! lock file.
+ghost use Rattle.std.specs.Prelude.{◌≡◌, ◌⊎◌, ◌≤◌, IfOk};
 
 use crate::call_plan::{CallPlan, read_call_plan};
+use crate::fitted_call::{offline_flag, required_option};
 use crate::locked_packages::locked_packages;
-use crate::next_call::{offline_flag, required_option};
 use clap::{ArgMatches, Command};
 use cli_machine::print_parse_error;
 use edit_base::{CargoResult, Error};
@@ -233,7 +234,9 @@ fn answer<S: Store, O: io::Write, E: io::Write>(
     files: &mut S,
     out: &mut O,
     err: &mut E,
-) -> RunResult<u8> {
+) -> RunResult<u8>
+    ensures { IfOk result (λ s. (s ≡ 0) ⊎ (s ≡ 2)) }
+{
     let command = command(alloc)?;
     let matches = match command.try_get_matches_from(arguments) {
         Ok(matches) => matches,
@@ -259,7 +262,9 @@ pub fn print_update_calls<S: Store, O: io::Write, E: io::Write>(
     files: &mut S,
     out: &mut O,
     err: &mut E,
-) -> u8 {
+) -> u8
+    ensures status { result ≤ 2 }
+{
     match answer(alloc, arguments, current, files, out, err) {
         Ok(status) => status,
         Err(failure) => {

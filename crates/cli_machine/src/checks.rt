@@ -1,5 +1,7 @@
 //! Checks of the paths on the command line, before anything is read.
+ghost use Rattle.std.specs.Prelude.{◌≡◌};
 
+use crate::index_store::is_list;
 use clap::ArgMatches;
 use edit_base::CargoResult;
 use edit_base::paths::{folder, join};
@@ -9,10 +11,11 @@ use std::fs::Metadata;
 use std::os::unix::fs::{FileTypeExt, MetadataExt};
 
 /// The options that give a file to read.
-const READ: [&str; 6] = [
+const READ: [&str; 7] = [
     "manifest-path",
     "metadata-json",
     "index-file",
+    "index-dir",
     "lock-file",
     "config",
     "default-config",
@@ -42,13 +45,16 @@ pub struct Folders<'a> {
 
 impl<'a> Folders<'a> {
     /// The current folder, and the home folder of cargo if it is known.
-    pub fn new(current: &'a str, home: Option<&'a str>) -> Folders<'a> {
+    pub fn new(current: &'a str, home: Option<&'a str>) -> Folders<'a>
+        ensures current { result.current ≡ current.entry }
+        ensures home { result.home ≡ home.entry }
+    {
         Folders { current, home }
     }
 }
 
 /// The index folder that is read: `None` where an index file is given too, which is another usage error.
-fn index_folder<'a>(arguments: &ArgMatches<'a>) -> Option<&'a str> {
+pub fn index_folder<'a>(arguments: &ArgMatches<'a>) -> Option<&'a str> {
     match arguments.get_str("index-file") {
         Some(_) => None,
         None => arguments.get_str("index-dir"),
@@ -68,7 +74,8 @@ fn package_fault(rt: &HostRuntime, arguments: &ArgMatches<'_>) -> CargoResult<Op
     Ok(None)
 }
 
-/// What is wrong with the names and the paths in the arguments of `upgrade`; `None` if nothing is.
+/// What is wrong with the names and the paths in the arguments of `upgrade`; `None` if nothing is. It looks
+/// at the files of the machine, so that no clause says what the result is.
 pub fn fault_of(
     rt: &HostRuntime,
     arguments: &ArgMatches<'_>,
@@ -79,7 +86,7 @@ pub fn fault_of(
     }
     if let Some(named) = index_folder(arguments) {
         let path = join(rt.alloc(), folders.current, named)?;
-        if !is_folder(rt, path.as_str()) {
+        if !is_index(rt, path.as_str())? {
             let fault = format!(in rt.alloc();
                 "invalid value '{named}' for '--index-dir <DIR>': there is no such folder"
             )?;
@@ -247,6 +254,15 @@ fn is_at(rt: &HostRuntime, path: &str, found: &Metadata) -> bool {
     match fs::metadata(rt, path) {
         Ok(other) => other.dev() == found.dev() && other.ino() == found.ino(),
         Err(_) => false,
+    }
+}
+
+/// Whether there is an index at a path, after symbolic links are followed: a folder, or a list of entries.
+fn is_index(rt: &HostRuntime, path: &str) -> CargoResult<bool> {
+    match fs::metadata(rt, path) {
+        Ok(found) if found.is_file() => is_list(rt, path),
+        Ok(found) => Ok(found.is_dir()),
+        Err(_) => Ok(false),
     }
 }
 

@@ -62,7 +62,11 @@ fn is_colored_by_itself(rt: &HostRuntime, is_terminal: bool) -> CargoResult<bool
 }
 
 /// Whether a stream is colored, by the value of `--color` where it is given.
-pub fn is_colored(rt: &HostRuntime, given: Option<&str>, is_terminal: bool) -> CargoResult<bool> {
+pub(crate) fn is_colored(
+    rt: &HostRuntime,
+    given: Option<&str>,
+    is_terminal: bool,
+) -> CargoResult<bool> {
     match choice(rt, given)? {
         ColorChoice::Auto => is_colored_by_itself(rt, is_terminal),
         ColorChoice::Always => Ok(true),

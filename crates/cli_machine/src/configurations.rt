@@ -13,7 +13,8 @@ use edit_store::{HostStore, Store};
 /// Writes the two files into the folder of this run: `first.toml`, which counts before all others, has the
 /// registries that variables define and a placeholder address for each source that has none; `last.toml`,
 /// which counts after all others, has the address of crates.io that is built into cargo, or a placeholder if
-/// `git_place` chooses its git index. Returns the configuration of the first file.
+/// `git_place` chooses its git index. Returns the configuration of the first file. It reads the environment,
+/// so that no clause says what the files have.
 pub fn write_configurations(
     rt: &HostRuntime,
     files: &mut HostStore<HostRuntime>,
@@ -46,7 +47,7 @@ fn last_text(rt: &HostRuntime, git_place: Option<&str>) -> CargoResult<Vec<u8>> 
 }
 
 /// Reads the configuration that `write_configurations` wrote into `first.toml`.
-pub fn written_configuration(
+pub(crate) fn written_configuration(
     rt: &HostRuntime,
     files: &mut HostStore<HostRuntime>,
     room: &str,
@@ -60,7 +61,8 @@ pub fn written_configuration(
 }
 
 /// The configurations of the current folder, and then those of each member of the workspace in the metadata
-/// file, without duplicates. Files that cannot be read are skipped: the upgrade reports them.
+/// file, without duplicates. Files that cannot be read are skipped: the upgrade reports them. The files are
+/// those of the machine, so that no clause says what the result is.
 pub fn all_configs(
     rt: &HostRuntime,
     files: &mut HostStore<HostRuntime>,

@@ -7,7 +7,7 @@ use std::{env, str};
 
 /// The name and the value of each environment variable. Where one is not UTF-8 it is left out, and the
 /// others are read from the kernel.
-pub fn variables(
+pub(crate) fn variables(
     rt: &HostRuntime,
     files: &mut HostStore<HostRuntime>,
 ) -> CargoResult<Vec<(String, String)>> {

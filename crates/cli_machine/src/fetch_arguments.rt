@@ -1,4 +1,7 @@
 //! The arguments of `fetch-plan` and `fetch-store`.
+ghost use Rattle.std.specs.Prelude.{◌≡◌, ◌⊎◌, IfErr, IfOk, map};
+ghost use Rattle.clap.specs.Words.{HasMatchesOf};
+ghost use Rattle.edit_words.specs.CommandLine.{edit_app};
 
 use crate::parsing::{parse_args, print_parse_error, print_usage};
 use clap::ArgMatches;
@@ -52,11 +55,9 @@ pub fn read_arguments<'a>(arguments: &'a [&'a str]) -> Option<FetchArguments<'a>
 }
 
 /// Prints the usage of a subcommand around `curl`, and returns the exit status of a usage error.
-pub fn print_fetch_usage<E: Write>(
-    alloc: Global,
-    name: &str,
-    err: &mut E,
-) -> Result<u8, AllocError> {
+pub fn print_fetch_usage<E: Write>(alloc: Global, name: &str, err: &mut E) -> Result<u8, AllocError>
+    ensures { IfOk result (λ s. s ≡ 2) }
+{
     let usage = format!(in alloc;
         "{name} --cache DIR --room DIR [--lookups FILE] [--offline] -- UPGRADE-ARGUMENTS.."
     )?;
@@ -69,7 +70,10 @@ pub fn upgrade_matches<'a, E: Write>(
     rt: &HostRuntime,
     args: &'a [&'a str],
     err: &mut E,
-) -> CargoResult<Result<ArgMatches<'a>, u8>> {
+) -> CargoResult<Result<ArgMatches<'a>, u8>>
+    ensures status { IfOk result (λ r. IfErr r (λ s. (s ≡ 0) ⊎ (s ≡ 2))) }
+    ensures matches { IfOk result (λ r. IfOk r (HasMatchesOf edit_app (map (λ w. w.now) args.now))) }
+{
     match parse_args(rt.alloc(), args) {
         Ok(matches) => Ok(Ok(matches)),
         Err(error) => Ok(Err(print_parse_error(&error, &mut rt.stdout(), err)?)),

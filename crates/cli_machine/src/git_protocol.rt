@@ -14,7 +14,8 @@ const KEYS: [&str; 3] = ["registries", "crates-io", "protocol"];
 
 /// The variable or the configuration file that makes cargo read the git index of crates.io; `None` if it
 /// reads the sparse one (Cargo reference, "Configuration", `registries.crates-io.protocol`). The variable
-/// comes before the files, and the first file with the key before the others.
+/// comes before the files, and the first file with the key before the others. Both are the machine's, so that
+/// no clause says what the result is.
 pub fn git_protocol_place(
     rt: &HostRuntime,
     files: &mut HostStore<HostRuntime>,

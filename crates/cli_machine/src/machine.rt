@@ -1,4 +1,6 @@
 //! Queries of the operating system.
+ghost use Rattle.std.specs.Prelude.{◌≡◌, ◌⊎◌};
+ghost use Rattle.edit_base.specs.declared.errors.Error.TheVariants.{Io, Memory};
 
 use edit_base::paths::join;
 use edit_base::{CargoResult, Error};
@@ -7,7 +9,7 @@ use std::io::{ErrorKind, Read};
 use std::{env, io};
 
 /// An environment variable, where it is set and not empty.
-pub fn variable(rt: &HostRuntime, name: &str) -> CargoResult<Option<String>> {
+pub(crate) fn variable(rt: &HostRuntime, name: &str) -> CargoResult<Option<String>> {
     match env::var(rt, name) {
         Ok(text) if text.is_empty() => Ok(None),
         Ok(text) => Ok(Some(text)),
@@ -17,7 +19,7 @@ pub fn variable(rt: &HostRuntime, name: &str) -> CargoResult<Option<String>> {
     }
 }
 
-/// Reads standard input to its end, but at most this number of bytes.
+/// Reads standard input to its end, but at most this number of bytes. No clause says which bytes those are.
 pub fn read_input(rt: &HostRuntime, limit: u64) -> CargoResult<Vec<u8>> {
     let mut bytes = Vec::new(rt.alloc());
     match rt.stdin().take(limit).read_to_end(&mut bytes) {
@@ -26,8 +28,10 @@ pub fn read_input(rt: &HostRuntime, limit: u64) -> CargoResult<Vec<u8>> {
     }
 }
 
-/// Converts an error of the operating system.
-pub fn machine_error(error: io::Error) -> Error {
+/// Converts an error of the operating system: lack of memory, or any other error, which is kept.
+pub fn machine_error(error: io::Error) -> Error
+    ensures { (result ≡ Memory) ⊎ (result ≡ Io error) }
+{
     if error.kind() == ErrorKind::OutOfMemory {
         Error::Memory
     } else {
@@ -36,7 +40,7 @@ pub fn machine_error(error: io::Error) -> Error {
 }
 
 /// The home folder of cargo: `CARGO_HOME`, else `.cargo` in `HOME`, else none. An empty variable counts as
-/// unset.
+/// unset. It reads the environment, so that no clause says what the result is.
 pub fn cargo_home(rt: &HostRuntime) -> CargoResult<Option<String>> {
     if let Some(home) = variable(rt, "CARGO_HOME")? {
         return Ok(Some(home));

@@ -19,7 +19,8 @@ pub struct Network {
     pub configs: Vec<Config>,
 }
 
-/// Reads what decides the transfers of a run for which `fetch-plan` was called.
+/// Reads what decides the transfers of a run for which `fetch-plan` was called: the environment and files of
+/// the machine, so that no clause says what the result is.
 pub fn read_network(
     rt: &HostRuntime,
     room: &str,
@@ -39,7 +40,8 @@ pub fn read_network(
     })
 }
 
-/// The network settings for a run in a folder.
+/// The network settings for a run in a folder, by the environment and the configuration files of the
+/// machine, so that no clause says what they are.
 pub fn network_settings(
     rt: &HostRuntime,
     files: &mut HostStore<HostRuntime>,

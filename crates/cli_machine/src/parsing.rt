@@ -1,4 +1,9 @@
 //! The arguments of `upgrade` and `set-version`, as the plumbing subcommands read them.
+ghost use Rattle.std.specs.Prelude.{◌≡◌, ◌≢◌, ◌⊎◌, ◌∷◌, ◌↔◌, IfErr, IfOk, map};
+ghost use Rattle.clap.specs.Words.{HasMatchesOf, kind_of};
+ghost use Rattle.edit_base.specs.declared.errors.Error.TheVariants.{Memory, Output};
+ghost use Rattle.edit_words.specs.CommandLine.{edit_app};
+ghost use Rattle.edit_words.specs.Filled.{insert_defaults};
 
 use clap::ArgMatches;
 use clap::error::ErrorKind;
@@ -12,24 +17,29 @@ pub fn filled_args<'a>(
     alloc: Global,
     subcommand: &'a str,
     arguments: &[&'a str],
-) -> Result<Vec<&'a str>, AllocError> {
+) -> Result<Vec<&'a str>, AllocError>
+    ensures { IfOk result (λ v. map (λ w. w.now) v.items
+        ≡ insert_defaults (subcommand.now ∷ map (λ w. w.now) arguments.now)) }
+{
     let mut args = Vec::new(alloc);
     args.push(subcommand)?;
-    for argument in arguments {
-        args.push(*argument)?;
-    }
+    args.extend_from_slice(arguments)?;
     insert_defaults(alloc, &args)
 }
 
 /// Parses arguments that begin with a subcommand of `cargo-edit`.
-pub fn parse_args<'a>(alloc: Global, args: &'a [&'a str]) -> Result<ArgMatches<'a>, clap::Error> {
+pub fn parse_args<'a>(alloc: Global, args: &'a [&'a str]) -> Result<ArgMatches<'a>, clap::Error>
+    ensures matches { IfOk result (HasMatchesOf edit_app (map (λ w. w.now) args.now)) }
+{
     let command = command(alloc)?;
     command.try_get_matches_from(args)
 }
 
 /// Prints that the arguments of a subcommand for the scripts are not accepted, with its usage, and returns
 /// the exit status of a usage error.
-pub fn print_usage<E: io::Write>(usage: &str, err: &mut E) -> u8 {
+pub fn print_usage<E: io::Write>(usage: &str, err: &mut E) -> u8
+    ensures { result ≡ 2 }
+{
     let _ = writeln!(
         err,
         "error: the arguments are not accepted\n\nUsage: cargo-edit {usage}"
@@ -42,7 +52,12 @@ pub fn print_parse_error<O: io::Write, E: io::Write>(
     error: &clap::Error,
     out: &mut O,
     err: &mut E,
-) -> CargoResult<u8> {
+) -> CargoResult<u8>
+    ensures status { IfOk result (λ s. (s ≡ 0) ⊎ (s ≡ 2)) }
+    ensures wrong { IfOk result (λ s. (s ≡ 2) ↔ ((kind_of error.now ≢ ErrorKind.DisplayHelp)
+        × (kind_of error.now ≢ ErrorKind.DisplayVersion))) }
+    ensures error { IfErr result (λ e. (e ≡ Memory) ⊎ (e ≡ Output)) }
+{
     if error.kind() == ErrorKind::OutOfMemory {
         return Err(Error::Memory);
     }

@@ -34,7 +34,8 @@ fn read_file(
     }
 }
 
-/// Reads the file of credentials in the home folder of cargo: `credentials`, else `credentials.toml`.
+/// Reads the file of credentials in the home folder of cargo: `credentials`, else `credentials.toml`. No
+/// clause says what the machine has there.
 pub fn read_credentials(
     rt: &HostRuntime,
     files: &mut HostStore<HostRuntime>,
@@ -51,7 +52,7 @@ pub fn read_credentials(
     read_file(rt, files, path.as_str())
 }
 
-/// Reads the files of configurations again, in their order.
+/// Reads the files of configurations again, in their order. No clause says what the machine has there.
 pub fn read_config_files(
     rt: &HostRuntime,
     files: &mut HostStore<HostRuntime>,

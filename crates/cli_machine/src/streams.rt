@@ -1,4 +1,5 @@
 //! Standard output and standard error of the program.
+ghost use Rattle.std.specs.Prelude.{◌≡◌, ◌↔◌, IsTrue, Some, codes, option_map};
 
 use crate::color::is_colored;
 use crate::machine::machine_error;
@@ -24,7 +25,9 @@ pub struct ReportOptions<'a> {
 
 impl ReportOptions<'_> {
     /// Whether the report is written as JSON messages.
-    pub fn is_json(self) -> bool {
+    pub fn is_json(self) -> bool
+        ensures { IsTrue result ↔ (option_map (λ s. s.now) self.entry.format ≡ Some (codes "json")) }
+    {
         self.format == Some("json")
     }
 }
@@ -37,7 +40,8 @@ fn line_stream<W: Write + Drop>(alloc: Global, to: W) -> CargoResult<LineWriter<
     LineWriter::with_capacity(alloc, LINE, to).map_err(machine_error)
 }
 
-/// Standard output for programs, which is not escaped for a terminal.
+/// Standard output for programs, which is not escaped for a terminal. No clause says what it writes, as of
+/// the other streams of the machine here.
 pub fn output(rt: &HostRuntime) -> CargoResult<LineWriter<Stdout>> {
     line_stream(rt.alloc(), rt.stdout())
 }

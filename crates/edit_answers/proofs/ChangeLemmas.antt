@@ -1,6 +1,6 @@
 -- Sequences of changes of files.
-use Rattle.std.proofs.Common.{◌≡◌, ◌≢◌, ℕ, ◌≤◌, List, [], Vec, Global, ap, option_map, Bool, true, false, Option, Some, None, refl, sym, ◌∙◌, subst, inl, inr, ⊎_elim, arith, Decides}
-use Rattle.std.specs.Prelude.{◌⊎◌, Result, Ok, Err, OnOk, IfOk, IsErrAnd}
+use Rattle.std.proofs.Common.{◌≡◌, ◌≢◌, ℕ, ◌≤◌, List, [], ap, Bool, true, false, Some, refl, sym, ◌∙◌, subst, inl, inr, ⊎_elim, arith, Decides}
+use Rattle.std.specs.Prelude.{◌⊎◌, Result, Ok, Err, OnOk, IfErr, IfOk, IsErrAnd}
 use Rattle.std.specs.Str.{bytes_eq}
 use Rattle.std.proofs.lemmas.Bool.{false≢true}
 use Rattle.std.proofs.lemmas.Slice.Eq.{bytes_eq-Decides}
@@ -9,7 +9,7 @@ use Rattle.edit_base.specs.declared.errors.DeviceCall.{DeviceCall}
 use Rattle.edit_base.specs.declared.errors.Error.{Error}
 use Rattle.edit_base.specs.declared.errors.Error.TheVariants.{Memory}
 use Rattle.edit_store.specs.Store.{Files, HasCause, OnlyReads, IsCallError, SameBut, SameFiles, StoreView, IsRaisedCount}
-use Rattle.edit_answers.specs.Changes.{Changes, Fails, IsAllowedAt, AllowsChanges, AllowsChangesBut}
+use Rattle.edit_answers.specs.Changes.{Changes, Fails, AllowsChanges, AllowsChangesBut}
 
 by_test : (t : Bool) (P : Type 0) → Decides t P → P ⊎ (P → ⊥)
 by_test true P d = inl (d.0 refl)
@@ -44,17 +44,6 @@ module _ (P : List ℕ → List ℕ → Type 0) where
         ⊎_elim (λ same. ⊎_elim (λ e. inl (same ∙ e)) (λ new. inr (new.0, same ∙ new.1, new.2)) (first path))
         (λ new. inr new) (second.1 path n),
   )
-
-  -- one path changes, where any bytes are allowed
-  pub keeps-at : (a b : Files) (at : List ℕ) → SameBut at a b → (b at ≡ None → b at ≡ a at)
-      → ((bytes : List ℕ) → P at bytes) → AllowsChanges P a b
-  keeps-at a b at same gone may path =
-      ⊎_elim (λ e. subst (IsAllowedAt P a b) (sym e) (at-path (b at) refl))
-      (λ n. inl (same path n)) (apart path at)
-    where
-      at-path : (o : Option (List ℕ)) → b at ≡ o → IsAllowedAt P a b at
-      at-path None is = inl (gone is)
-      at-path (Some bytes) is = inr (bytes, is, may bytes)
 
 module _ (P Q : List ℕ → List ℕ → Type 0) (weaker : (path bytes : List ℕ) → P path bytes → Q path bytes) where
   pub keeps-weaker : (a b : Files) → AllowsChanges P a b → AllowsChanges Q a b
@@ -159,19 +148,6 @@ as-err P R Q Q' a b e weaker step = record {
   error = step.error;
 }
 
-pub weakened : {T : Type 0} (P P' : T → List ℕ → List ℕ → Type 0) (Q Q' : List ℕ → List ℕ → Type 0)
-    (a b : StoreView)
-    (r : Result T Error) → (a.tells ≡ true → (v : T) (path bytes : List ℕ) → P v path bytes → P' v path bytes)
-    → ((path bytes : List ℕ) → Q path bytes → Q' path bytes) → Changes P Q a b r → Changes P' Q' a b r
-weakened P P' Q Q' a b (Ok v) wp wq step = record {
-  tells = step.tells;
-  later = step.later;
-  done = λ t. keeps-weaker (P v) (P' v) (wp t v) a.file_at b.file_at (step.done t);
-  torn = tt;
-  error = tt;
-}
-weakened P P' Q Q' a b (Err e) wp wq step = as-err P P' Q Q' a b e wq step
-
 -- a write
 pub write-changes : {T : Type 0} (P : T → List ℕ → List ℕ → Type 0) (Q : List ℕ → List ℕ → Type 0)
     (call : DeviceCall)
@@ -195,12 +171,6 @@ write-changes P Q call a b at bytes (Err e) tells written others cause keeps = r
   error = fails-call call a b e cause.refused;
 }
 
--- a file that is rewritten with the same bytes
-pub keeps-anew : (P : List ℕ → List ℕ → Type 0) (a b : Files) (at bytes : List ℕ) → SameBut at a b
-    → b at ≡ Some bytes → a at ≡ Some bytes → AllowsChanges P a b
-keeps-anew P a b at bytes same is was path =
-    ⊎_elim (λ e. inl (subst (λ p. b p ≡ a p) (sym e) (is ∙ sym was))) (λ n. inl (same path n)) (apart path at)
-
 -- a call that only reads
 pub only-reads : {T : Type 0} (P : T → List ℕ → List ℕ → Type 0) (Q : List ℕ → List ℕ → Type 0)
     (a b : StoreView) (v : T)
@@ -223,14 +193,12 @@ reads-fails P Q a b e reads fails = record {
   error = fails;
 }
 
--- the bytes that were read are unchanged after the call
-pub read-stands : (old mid : Files) (p q : List ℕ) (o : Option (Vec ℕ Global)) (v : Vec ℕ Global)
-    (bytes : List ℕ)
-    → SameFiles old mid → option_map (λ (x : Vec ℕ Global). x.items) o ≡ old p → o ≡ Some v → bytes
-    ≡ v.items → q ≡ p
-    → mid q ≡ Some bytes
-read-stands old mid p q o v bytes same was is b e =
-    ap mid e ∙ (same p ∙ (sym was ∙ (ap (option_map (λ (x : Vec ℕ Global). x.items)) is ∙ ap Some (sym b))))
+-- a call that only reads, whatever its result
+pub reads-changes : {T : Type 0} (P : T → List ℕ → List ℕ → Type 0) (Q : List ℕ → List ℕ → Type 0)
+    (a b : StoreView)
+    (r : Result T Error) → OnlyReads a b → IfErr r (Fails a.faults b.faults) → Changes P Q a b r
+reads-changes P Q a b (Ok v) reads fails = only-reads P Q a b v reads
+reads-changes P Q a b (Err e) reads fails = reads-fails P Q a b e reads fails
 
 -- a call, and then another one
 pub then : {U T : Type 0} (F : List ℕ → List ℕ → Type 0) (a b c : StoreView) (u : U) (r : Result T Error)
@@ -243,7 +211,7 @@ pub on-ok : {T : Type 0} (P P' : T → Type 0) (r : Result T Error) → ((v : T)
 on-ok P P' (Ok v) f h = f v h
 on-ok P P' (Err e) f h = tt
 
-pub on-done : {T : Type 0} (A B : Type 0) (r : Result T Error) → (A → B) → OnOk r A → OnOk r B
+pub on-done : {T E : Type 0} (A B : Type 0) (r : Result T E) → (A → B) → OnOk r A → OnOk r B
 on-done A B (Ok v) f h = f h
 on-done A B (Err e) f h = tt
 

@@ -1,11 +1,10 @@
 pub mod BodyLemmas
 mod BoolLemmas
-mod CacheLemmas
 pub mod ChangeLemmas
 mod FollowLemmas
 mod GroupLemmas
 pub mod LineLemmas
-mod LinkLemmas
+pub mod ListLemmas
 mod PruneLemmas
 pub mod PutLemmas
 mod ReportLemmas

@@ -113,16 +113,16 @@ all-found front (a ∷ files) =
     (subst (λ fs. All (λ x. list_any (λ t. is_same t x) fs ≡ true) files)
     (append_assoc front (a ∷ []) files) (all-found (front ++ a ∷ []) files))
 
--- a path that is none of a validator is that of its entry
+-- a path that does not end in `.etag` is that of its entry
 entry-by : (path : List ℕ) (b : Bool) → (b ≡ true → path ≡ take (length path - 5) path ++ codes ".etag")
     → ((front : List ℕ) → path ≡ front ++ codes ".etag" → ⊥)
     → path ≡ cond b (take (length path - 5) path) path
 entry-by path true ends never = absurd (never (take (length path - 5) path) (ends refl))
 entry-by path false ends never = refl
 
-pub no-validator : (path : List ℕ) → ((front : List ℕ) → path ≡ front ++ codes ".etag" → ⊥)
+pub no-etag-file : (path : List ℕ) → ((front : List ℕ) → path ≡ front ++ codes ".etag" → ⊥)
     → path ≡ entry_of path
-no-validator path never =
+no-etag-file path never =
     entry-by path (ends_with nat_eq path (codes ".etag"))
     (ends_is Decides-eqb path (codes ".etag") (ends_with nat_eq path (codes ".etag")) refl).0 never
 

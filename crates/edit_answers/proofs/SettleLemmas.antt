@@ -11,18 +11,17 @@ use Rattle.edit_store.specs.Store.{StoreView}
 use Rattle.edit_lookups.specs.Lookups.{LookupText}
 use Rattle.edit_answers.specs.Changes.{Changes, AllowsChanges}
 use Rattle.edit_answers.specs.Outcomes.{Puts, PutsOne, PutsSome}
-use Rattle.edit_answers.specs.Outcomes.Puts.{entry, validator, indexed}
+use Rattle.edit_answers.specs.Outcomes.Puts.{entry}
 use Rattle.edit_answers.specs.declared.meaning.Outcome.{Outcome}
 use Rattle.edit_answers.specs.declared.meaning.Outcome.TheVariants.{Fetched}
 use Rattle.edit_answers.specs.declared.places.Places.{Places}
 use Rattle.edit_answers.proofs.ChangeLemmas.{but-weaker, fails-later, keeps-then, keeps-then-but, keeps-weaker}
 
 -- a write that a lookup allows is allowed if its entry was fetched
-puts-fetched : (p : Places) (l : LookupText) (o : Outcome) (path bytes : List ℕ) → Puts p l o path bytes
+pub puts-fetched : (p : Places) (l : LookupText) (o : Outcome) (path bytes : List ℕ) → Puts p l o path bytes
     → Puts p l Fetched path bytes
-puts-fetched p l o path bytes (entry bs is whole) = entry bs (inl refl) whole
-puts-fetched p l o path bytes (validator body bs etag is whole of) = validator body bs etag refl whole of
-puts-fetched p l o path bytes (indexed bs) = indexed bs
+puts-fetched p l o path bytes (entry etag body is valid moved whole) =
+    entry etag body (inl refl) valid (λ e. cc) whole
 
 get-more : {X : Type 0} (xs : List X) (y x : X) (k : ℕ) → slice_get xs k ≡ Some x
     → slice_get (xs ++ y ∷ []) k ≡ Some x
@@ -39,6 +38,7 @@ module _ (p : Places) (ls : List LookupText) where
   some-one os path bytes h = record {
     number = h.number;
     lookup = h.lookup;
+    among = tt;
     is = h.is;
     puts = puts-fetched p h.lookup h.outcome path bytes h.puts;
   }
@@ -67,7 +67,7 @@ module _ (p : Places) (ls : List LookupText) where
 
   some-last : (os : List Outcome) (l : LookupText) (path bytes : List ℕ) → slice_get ls (length os) ≡ Some l
       → Puts p l Fetched path bytes → PutsSome p ls path bytes
-  some-last os l path bytes is h = record { number = length os; lookup = l; is = is; puts = h }
+  some-last os l path bytes is h = record { number = length os; lookup = l; among = tt; is = is; puts = h }
 
   -- one lookup more
   pub settled-more : (os all : List Outcome) (o : Outcome) (l : LookupText) (a b c : StoreView)

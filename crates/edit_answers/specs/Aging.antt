@@ -50,7 +50,8 @@ pub record Removes (a : AgedText) (old new : AgingView) (result : Result Unit Er
   pub left : OnErr result (old.tells ≡ true → new.files ≡ old.files)
   pub error : IfErr result (Fails old.faults new.faults)
 
--- the path of an entry, given its own path or that of its validator
+-- the path of an entry, given its own path or that of the `.etag` file beside it, which older versions of
+-- this program wrote
 abbrev pub entry_of : List ℕ → List ℕ
 entry_of path =
     if ends_with nat_eq path (codes ".etag") then take (length path - 5) path else path
@@ -71,8 +72,8 @@ is_recent a = nat_lt a.days (retention_days a.is_run)
 abbrev pub is_used : List AgedText → List ℕ → Bool
 is_used files owner = list_any (λ a. is_recent a && bytes_eq (owner_of a) owner) files
 
--- the files that stay: an entry and its validator if one of them was modified within 90 days, and the
--- working folders of runs that were modified within a day
+-- the files that stay: an entry and the `.etag` file beside it if one of them was modified within 90 days,
+-- and the working folders of runs that were modified within a day
 abbrev pub remaining_files : List AgedText → List AgedText → List AgedText
 remaining_files all files = filter (λ a. is_used all (owner_of a)) files
 

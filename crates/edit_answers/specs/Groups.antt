@@ -10,9 +10,9 @@ use Rattle.edit_answers.specs.declared.groups.Group.{Group}
 use Rattle.edit_answers.specs.declared.groups.Consequence.{Consequence}
 use Rattle.edit_answers.specs.declared.groups.Consequence.TheVariants as standing
 use Rattle.edit_answers.specs.declared.meaning.Failure.{Failure}
-use Rattle.edit_answers.specs.declared.meaning.Failure.TheVariants.{BadLine, NoFolder, Offline}
+use Rattle.edit_answers.specs.declared.meaning.Failure.TheVariants.{NoFolder, Offline}
 use Rattle.edit_answers.specs.declared.meaning.Outcome.{Outcome}
-use Rattle.edit_answers.specs.declared.meaning.Outcome.TheVariants.{Cached, Damaged, Missing}
+use Rattle.edit_answers.specs.declared.meaning.Outcome.TheVariants.{Cached, Missing}
 
 -- whether a crate is excluded from the upgrade
 abbrev pub is_excluded : List (Bor (List ℕ)) → List ℕ → Bool
@@ -36,14 +36,12 @@ cached_failure _ = None
 -- why an entry is not available, neither fetched nor cached
 abbrev pub missing_failure : Outcome → Option Failure
 missing_failure (Missing failure) = Some failure
-missing_failure (Damaged damage failure) = Some failure
 missing_failure _ = None
 
--- whether an upgrade cannot proceed without an entry: offline it can, unless a registry on this machine is
--- broken
+-- whether an upgrade cannot proceed without an entry: offline it can, unless the folder of a registry on this
+-- machine does not exist
 abbrev pub is_fatal : Bool → Failure → Bool
 is_fatal offline NoFolder = true
-is_fatal offline (BadLine line) = true
 is_fatal offline _ = not offline
 
 -- why an entry was not fetched, if that has this consequence for its lookup

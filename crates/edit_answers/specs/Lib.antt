@@ -4,13 +4,15 @@ pub mod Bodies
 pub mod CacheStore
 pub mod Changes
 pub mod CurlVersion
-pub mod OutcomeRules
+pub mod Etags
 pub mod Groups
-pub mod Links
+pub mod Listing
 pub mod Locals
 pub mod Meanings
 pub mod Messages
+pub mod OutcomeRules
 pub mod Outcomes
 pub mod Places
 pub mod Reasons
+pub mod Renewals
 pub mod StoredResults

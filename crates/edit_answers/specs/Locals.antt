@@ -8,11 +8,9 @@ use Rattle.url.specs.Parts.{Parts, has_host}
 use Rattle.edit_store.specs.Store.{Files, HasKindAt}
 use Rattle.edit_store.specs.declared.store.Kind.{Kind}
 use Rattle.edit_store.specs.declared.store.Kind.TheVariants.{Folder}
-use Rattle.edit_sources.specs.IndexLines.{IsBadLine, HaveEntriesInOrder, lines_of}
-use Rattle.edit_version.specs.IndexEntry.{IndexEntry}
 use Rattle.edit_lookups.specs.Lookups.{HasNo, LookupText}
 use Rattle.edit_answers.specs.Places.{local_path}
-use Rattle.edit_answers.specs.declared.meaning.Failure.TheVariants.{BadLine, NoFolder}
+use Rattle.edit_answers.specs.declared.meaning.Failure.TheVariants.{NoFolder}
 use Rattle.edit_answers.specs.declared.meaning.Outcome.{Outcome}
 use Rattle.edit_answers.specs.declared.meaning.Outcome.TheVariants.{Absent, Local, Missing}
 
@@ -51,10 +49,11 @@ pub data HasNoFolder (address : List ℕ) (files : Files) : Type 0 where
   other : (folder : List ℕ) (kind : Kind) → IsLocalFolder address folder → HasKindAt files folder kind
       → kind ≢ Folder → HasNoFolder address files
 
--- the result of a lookup, given the bytes of its file in a registry on this machine
-pub data IsLocalFile (bytes : List ℕ) : Outcome → Type 0 where
-  bad_line : (number : ℕ) → IsBadLine (lines_of bytes) number → IsLocalFile bytes (Missing (BadLine number))
-  lines : (entries : List IndexEntry) → HaveEntriesInOrder (lines_of bytes) entries → IsLocalFile bytes Local
+-- the path of the file of a lookup's entry in the folder that the address of its registry names
+pub record IsLocalFile (l : LookupText) (file : List ℕ) : Type 0 where
+  pub folder : List ℕ
+  pub names : IsLocalFolder l.address folder
+  pub is : file ≡ local_path folder l.path
 
 -- the result of a lookup in a registry on this machine
 pub data SettlesLocal (l : LookupText) (files : Files) : Outcome → Type 0 where
@@ -62,5 +61,5 @@ pub data SettlesLocal (l : LookupText) (files : Files) : Outcome → Type 0 wher
   absent : (folder : List ℕ) → HasExistingFolder l.address files folder
       → files (local_path folder l.path) ≡ None
       → SettlesLocal l files Absent
-  present : (folder bytes : List ℕ) (o : Outcome) → HasExistingFolder l.address files folder
-      → files (local_path folder l.path) ≡ Some bytes → IsLocalFile bytes o → SettlesLocal l files o
+  present : (folder bytes : List ℕ) → HasExistingFolder l.address files folder
+      → files (local_path folder l.path) ≡ Some bytes → SettlesLocal l files Local

@@ -2,18 +2,13 @@
 use Rattle.std.specs.Prelude.{◌≡◌, ℕ, List, [], ◌∷◌, ◌++◌, Option, Some, None, Bool, codes, length, option_map, string_bytes}
 use Rattle.std.specs.Fmt.{decimal}
 use Rattle.std.specs.List.{flat_map}
-use Rattle.edit_lookups.specs.CachePaths.{cached_path}
 use Rattle.edit_lookups.specs.ControlEscapes.{escape_controls}
-use Rattle.edit_lookups.specs.Lookups.{lookup_text}
 use Rattle.edit_lookups.specs.UserinfoAddresses.{strip_userinfo}
 use Rattle.edit_lookups.specs.declared.lookups.Lookup.{Lookup}
 use Rattle.edit_answers.specs.Groups.{AreGroups, GroupText, failed_lookups}
-use Rattle.edit_answers.specs.declared.bodies.Damage.{Damage}
-use Rattle.edit_answers.specs.declared.bodies.Damage.TheVariants.{BadLine, NotWhole}
 use Rattle.edit_answers.specs.declared.groups.Consequence.{Consequence}
 use Rattle.edit_answers.specs.declared.groups.Consequence.TheVariants.{Cached, Left, Missing}
 use Rattle.edit_answers.specs.declared.meaning.Outcome.{Outcome}
-use Rattle.edit_answers.specs.declared.meaning.Outcome.TheVariants.{Damaged}
 use Rattle.edit_answers.specs.declared.messages.Report.{Report}
 
 -- the address of a registry in messages
@@ -63,25 +58,6 @@ line_of Cached g = cached_line g
 line_of Left g = skipped_line g
 line_of Missing g = missing_line g
 
--- the warning about a damaged file in the cache
-abbrev pub damage_text : List ℕ → Damage → List ℕ
-damage_text path (BadLine line) =
-    let place = escape_controls path ++ (codes ":" ++ decimal line) in
-    codes "warning: the cached index entry "
-    ++ ((place ++ codes " is no index line, so the file is not used") ++ codes ": remove it\n")
-damage_text path NotWhole =
-    codes "warning: the cached index entry "
-    ++ (escape_controls path ++ codes " is not whole, so the file is not used: remove it\n")
-
--- the warning about the damaged cached entry at a path; empty for any other result
-abbrev pub damage_by : List ℕ → Outcome → List ℕ
-damage_by path (Damaged damage failure) = damage_text path damage
-damage_by path _ = []
-
--- the warning about a lookup whose cached entry is damaged; empty for any other lookup
-abbrev pub damage_line : List ℕ → Lookup × Outcome → List ℕ
-damage_line cache p = damage_by (cached_path cache (lookup_text p.0)) p.1
-
 -- the first line of the error for missing entries
 abbrev pub error_head : List ℕ
 error_head =
@@ -99,7 +75,7 @@ pub record IsUnreadable (r : Report) : Type 0 where
   pub error : option_map string_bytes r.error ≡ Some (codes "the lookups of this run are malformed")
 
 -- the report of lookups with these results
-pub record IsReport (cache : List ℕ) (is_offline : Bool) (pairs : List (Lookup × Outcome)) (r : Report)
+pub record IsReport (is_offline : Bool) (pairs : List (Lookup × Outcome)) (r : Report)
     : Type 0 where
   pub cached : List GroupText
   pub left : List GroupText
@@ -107,7 +83,5 @@ pub record IsReport (cache : List ℕ) (is_offline : Bool) (pairs : List (Lookup
   pub are_cached : AreGroups (failed_lookups Cached is_offline pairs) cached
   pub are_left : AreGroups (failed_lookups Left is_offline pairs) left
   pub are_missing : AreGroups (failed_lookups Missing is_offline pairs) missing
-  pub warnings : string_bytes r.warnings
-      ≡ (flat_map (damage_line cache) pairs ++ flat_map (line_of Cached) cached)
-      ++ flat_map (line_of Left) left
+  pub warnings : string_bytes r.warnings ≡ flat_map (line_of Cached) cached ++ flat_map (line_of Left) left
   pub error : option_map string_bytes r.error ≡ error_text missing

@@ -1,12 +1,12 @@
 -- The results of lookups, given the outcomes of their transfers.
-use Rattle.std.specs.Prelude.{◌≡◌, ℕ, ◌+◌, List, Option, Some, None, Bool, true, false, ◌||◌, nat_eq, codes, slice_get}
+use Rattle.std.specs.Prelude.{◌≡◌, ◌<◌, ℕ, ◌+◌, List, Option, Some, None, Bool, true, false, ◌||◌, nat_eq, codes, slice_get}
 use Rattle.std.specs.List.{starts_with}
 use Rattle.edit_store.specs.Store.{Files}
 use Rattle.edit_lookups.specs.Lookups.{LookupText}
 use Rattle.edit_answers.specs.Changes.{AllowsChanges}
 use Rattle.edit_answers.specs.Locals.{SettlesLocal}
 use Rattle.edit_answers.specs.Meanings.{Means}
-use Rattle.edit_answers.specs.Outcomes.{PutsSome, Settles}
+use Rattle.edit_answers.specs.Outcomes.{PutsAmong, Settles, Stores}
 use Rattle.edit_answers.specs.declared.answers.Answer.{Answer}
 use Rattle.edit_answers.specs.declared.meaning.Failure.TheVariants.{NotFetchable, Offline}
 use Rattle.edit_answers.specs.declared.meaning.Meaning.{Meaning}
@@ -50,17 +50,21 @@ the_answer (Some answer) = answer
 abbrev pub answer_at : List (Option Answer) → ℕ → Option Answer
 answer_at answers k = the_answer (slice_get answers k)
 
--- the result of a lookup follows from the outcome at its index, with files that differ from the old ones
--- only by what lookups may write
+-- the result of a lookup follows from the outcome at its index and the files before it, and determines the
+-- files after it; only earlier lookups change files before, and only later ones after that
 pub record HasFollowed (p : Places) (ls : List LookupText) (is_offline : Bool)
     (answers : List (Option Answer))
-    (old : Files) (k : ℕ) (l : LookupText) (o : Outcome) : Type 0 where
-  pub files : Files
-  pub from_old : AllowsChanges (PutsSome p ls) old files
-  pub follows : HasOutcome p l (k + 1) is_offline (answer_at answers k) files o
+    (old new : Files) (k : ℕ) (l : LookupText) (o : Outcome) : Type 0 where
+  pub before : Files
+  pub after : Files
+  pub from_old : AllowsChanges (PutsAmong p ls (λ n. n < k)) old before
+  pub follows : HasOutcome p l (k + 1) is_offline (answer_at answers k) before o
+  pub stores : Stores o p l (k + 1) before after
+  pub to_new : AllowsChanges (PutsAmong p ls (λ n. k < n)) after new
 
 -- each result follows from the outcome at its index
-abbrev pub AllFollow : Places → List LookupText → Bool → List (Option Answer) → Files → List Outcome → Type 0
-AllFollow p ls is_offline answers old outcomes =
+abbrev pub AllFollow : Places → List LookupText → Bool → List (Option Answer) → Files → Files → List Outcome
+    → Type 0
+AllFollow p ls is_offline answers old new outcomes =
     (k : ℕ) (l : LookupText) (o : Outcome) → slice_get ls k ≡ Some l → slice_get outcomes k ≡ Some o
-    → HasFollowed p ls is_offline answers old k l o
+    → HasFollowed p ls is_offline answers old new k l o

@@ -1,19 +1,12 @@
 -- The reasons in messages why entries could not be fetched (own).
-use Rattle.std.specs.Prelude.{◌≡◌, ℕ, List, [], ◌++◌, ◌==◌, codes, length, if◌then◌else◌}
+use Rattle.std.specs.Prelude.{◌≡◌, ℕ, List, ◌++◌, ◌==◌, codes, length, if◌then◌else◌}
 use Rattle.std.specs.Fmt.{decimal}
 use Rattle.edit_lookups.specs.ControlEscapes.{escape_controls}
 use Rattle.edit_lookups.specs.Lookups.{LookupText}
-use Rattle.edit_answers.specs.Locals.{IsLocalFolder}
-use Rattle.edit_answers.specs.Places.{local_path}
 use Rattle.edit_answers.specs.declared.bodies.Damage.{Damage}
 use Rattle.edit_answers.specs.declared.bodies.Damage.TheVariants as damage
 use Rattle.edit_answers.specs.declared.meaning.Failure.{Failure}
-use Rattle.edit_answers.specs.declared.meaning.Failure.TheVariants.{BadLine, Curl, NoFolder, NotAnIndex, NotFetchable, Offline, Status, Token, Unanswered}
-
--- the path of an entry in a registry on this machine; empty where the address names no folder
-pub data IsFileOf (l : LookupText) : List ℕ → Type 0 where
-  named : (folder : List ℕ) → IsLocalFolder l.address folder → IsFileOf l (local_path folder l.path)
-  unnamed : ((folder : List ℕ) → IsLocalFolder l.address folder → ⊥) → IsFileOf l []
+use Rattle.edit_answers.specs.declared.meaning.Failure.TheVariants.{Curl, NoFolder, NotAnIndex, NotFetchable, Offline, Status, Token, Unanswered}
 
 -- the reason for a failed transfer: curl's message, and its exit code
 abbrev pub curl_text : List ℕ → List ℕ → List ℕ
@@ -24,11 +17,6 @@ curl_text exit message =
 -- the reason for an HTTP status
 abbrev pub status_text : List ℕ → List ℕ
 status_text code = codes "status " ++ escape_controls code
-
--- the reason for a malformed line of an index
-abbrev pub bad_line_text : ℕ → List ℕ → List ℕ
-bad_line_text line path =
-    codes "invalid index line " ++ (decimal line ++ (codes " of " ++ escape_controls path))
 
 -- the place of a line in the entry of a crate
 abbrev pub entry_line_text : ℕ → List ℕ → List ℕ
@@ -60,4 +48,3 @@ IsReason l (Token message) reason = reason ≡ escape_controls message.now
 IsReason l (Status code) reason = reason ≡ status_text code.now
 IsReason l (NotAnIndex damage) reason = reason ≡ body_text l.name damage
 IsReason l NoFolder reason = reason ≡ codes "there is no such folder"
-IsReason l (BadLine line) reason = (path : List ℕ) × IsFileOf l path × (reason ≡ bad_line_text line path)

@@ -8,12 +8,12 @@ use edit_sources::index_lines::read_lines;
 use edit_version::fetch::IndexVersion;
 use std::alloc::{AllocError, Global};
 
-/// Why a file is not a complete index file of a crate.
+/// Why a body is not a complete index file of a crate.
 #[derive(Clone, Copy, Debug)]
 pub enum Damage {
     /// The line of this number, from 1, is the first malformed one.
     BadLine(usize),
-    /// No line is malformed, but the file has no entry, does not end with a line end, or has an entry of
+    /// No line is malformed, but the body has no entry, does not end with a line end, or has an entry of
     /// another crate.
     NotWhole,
 }

@@ -4,7 +4,7 @@ ghost use Rattle.edit_answers.specs.CacheStore.{cache_faults, cache_view, cache_
 ghost use Rattle.edit_store.specs.Host.{IsHostError};
 
 use crate::cache_folder::DAY;
-use crate::link_store::{LinkStore, copy};
+use crate::renew_store::RenewStore;
 use edit_base::errors::{CargoResult, DeviceCall, Error};
 use edit_base::paths::folder;
 use edit_store::{Kind, Store};
@@ -15,12 +15,8 @@ use std::os::unix::fs::{DirBuilderExt, OpenOptionsExt};
 use std::time::{Clock, SystemTime};
 use std::{fs, io};
 
-/// The end of the name of a validator.
-const VALIDATOR: &str = ".etag";
-
 /// The store of the files of a cache: missing folders are created, for their owner only, and files are
-/// replaced atomically. A validator that has these bytes already only gets a new time. Its contracts do not
-/// state what the files hold.
+/// replaced atomically. Its contracts do not state what the files hold.
 #[derive(Debug, Drop)]
 pub struct CacheStore<R> {
     rt: R,
@@ -96,13 +92,9 @@ fn make_beside<R: Files<File = File>>(
     Err(io::Error::from(ErrorKind::AlreadyExists))
 }
 
-/// Writes the bytes of a new file and flushes them. A validator is not flushed, since it counts only
-/// together with the body whose checksum it has.
-fn fill(file: &mut File, path: &str, bytes: &[u8]) -> io::Result<()> {
+/// Writes the bytes of a new file and flushes them.
+fn fill(file: &mut File, bytes: &[u8]) -> io::Result<()> {
     file.write_all(bytes)?;
-    if path.ends_with(VALIDATOR) {
-        return Ok(());
-    }
     file.sync_data()
 }
 
@@ -116,7 +108,7 @@ fn replace<R: Files<File = File>>(
 ) -> io::Result<()> {
     make_folders(rt, path)?;
     let (mut file, name) = make_beside(rt, alloc, path, run)?;
-    let mut done = fill(&mut file, path, bytes);
+    let mut done = fill(&mut file, bytes);
     if done.is_ok() {
         done = fs::rename(rt, name.as_str(), path);
     }
@@ -129,62 +121,48 @@ fn replace<R: Files<File = File>>(
 /// The greatest size for which room is reserved before a file is read: curl writes no larger body.
 const RESERVED: u64 = 104_857_600;
 
-/// The bytes of an open file, read into room of its size.
-fn read_file(alloc: Global, file: &mut File) -> io::Result<Vec<u8>> {
-    let size = file.metadata()?.len().min(RESERVED) as usize;
+/// The bytes of the regular file at a path. Any other file is an error, and is not opened: a pipe could
+/// block.
+fn read_path<R: Files<File = File>>(rt: &R, alloc: Global, path: &str) -> io::Result<Vec<u8>> {
+    let metadata = fs::metadata(rt, path)?;
+    if metadata.is_dir() {
+        return Err(io::Error::from(ErrorKind::IsADirectory));
+    }
+    if !metadata.is_file() {
+        return Err(io::Error::from(ErrorKind::InvalidInput));
+    }
+    let mut file = File::open(rt, path)?;
+    let size = metadata.len().min(RESERVED) as usize;
     // (one byte more, so that the end is found without more room)
     let mut bytes = Vec::with_capacity(alloc, size.saturating_add(1))?;
     file.read_to_end(&mut bytes)?;
     Ok(bytes)
 }
 
-/// The bytes of the file at a path.
-fn read_path<R: Files<File = File>>(rt: &R, alloc: Global, path: &str) -> io::Result<Vec<u8>> {
-    let mut file = File::open(rt, path)?;
-    read_file(alloc, &mut file)
+/// Sets the modification time of a file.
+fn set_time<R: Files<File = File>>(rt: &R, path: &str, time: SystemTime) -> io::Result<()> {
+    File::open(rt, path)?.set_modified(time)
 }
 
-/// Whether a file has these bytes. It then counts as written now, in whole days: its time is set where that
-/// was longer ago.
-fn is_renewed<R: Files<File = File> + Clock>(
-    rt: &R,
-    alloc: Global,
-    path: &str,
-    bytes: &[u8],
-) -> io::Result<bool> {
-    let mut file = File::open(rt, path)?;
-    if read_file(alloc, &mut file)?.as_slice() != bytes {
+/// Whether a regular file is at a path. Its modification time is set to now if that was more than a day ago,
+/// and the system allows it.
+fn renew<R: Files<File = File> + Clock>(rt: &R, path: &str) -> io::Result<bool> {
+    let metadata = fs::metadata(rt, path)?;
+    if !metadata.is_file() {
         return Ok(false);
     }
     let now = SystemTime::now(rt)?;
-    match now.duration_since(file.metadata()?.modified()?) {
+    match now.duration_since(metadata.modified()?) {
         Ok(age) if age.as_secs() < DAY => {}
-        _ => file.set_modified(now)?,
+        // (a file with an old time can be used all the same)
+        _ => {
+            let _ = set_time(rt, path, now);
+        }
     }
     Ok(true)
 }
 
-/// Stores the bytes of a file.
-fn store<R: Files<File = File> + Clock>(
-    rt: &R,
-    alloc: Global,
-    path: &str,
-    bytes: &[u8],
-    run: u32,
-) -> io::Result<()> {
-    if path.ends_with(VALIDATOR) && matches!(is_renewed(rt, alloc, path, bytes), Ok(true)) {
-        return Ok(());
-    }
-    replace(rt, alloc, path, bytes, run)
-}
-
-/// Creates a hard link to a file, and the missing folders above it.
-fn link<R: Files<File = File>>(rt: &R, from: &str, to: &str) -> io::Result<()> {
-    make_folders(rt, to)?;
-    fs::hard_link(rt, from, to)
-}
-
-impl<R: Files<File = File> + Alloc<A = Global> + Clock + Drop> Store for CacheStore<R> {
+impl<R: Files<File = File> + Alloc<A = Global> + Drop> Store for CacheStore<R> {
     ghost view = { cache_view };
 
     fn kind(&mut self, _alloc: Global, path: &str) -> CargoResult<Kind> {
@@ -207,7 +185,7 @@ impl<R: Files<File = File> + Alloc<A = Global> + Clock + Drop> Store for CacheSt
 
     fn write(&mut self, alloc: Global, path: &str, bytes: &[u8]) -> CargoResult<()> {
         self.writes.push(String::from_str(alloc, path)?)?;
-        match store(&self.rt, alloc, path, bytes, self.run) {
+        match replace(&self.rt, alloc, path, bytes, self.run) {
             Ok(()) => Ok(()),
             Err(error) => Err(count_fault(&mut self.failed, DeviceCall::Write, error)),
         }
@@ -233,12 +211,12 @@ impl<R: Files<File = File> + Alloc<A = Global> + Clock + Drop> Store for CacheSt
     }
 }
 
-impl<R: Files<File = File> + Alloc<A = Global> + Clock + Drop> LinkStore for CacheStore<R> {
-    fn link(&mut self, alloc: Global, from: &str, to: &str) -> CargoResult<bool> {
-        match link(&self.rt, from, to) {
-            Ok(()) => Ok(true),
-            Err(error) if error.kind() == ErrorKind::NotFound => Ok(false),
-            Err(_) => copy(alloc, self, from, to),
+impl<R: Files<File = File> + Alloc<A = Global> + Clock + Drop> RenewStore for CacheStore<R> {
+    fn renew(&mut self, _alloc: Global, path: &str) -> CargoResult<bool> {
+        match renew(&self.rt, path) {
+            Ok(is_file) => Ok(is_file),
+            Err(error) if is_absent(error.kind()) => Ok(false),
+            Err(error) => Err(count_fault(&mut self.failed, DeviceCall::Kind, error)),
         }
     }
 }

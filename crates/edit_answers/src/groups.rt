@@ -80,19 +80,17 @@ fn missing_failure<'b>(outcome: Outcome<'b>) -> Option<Failure<'b>>
 {
     match outcome {
         Outcome::Missing(failure) => Some(failure),
-        Outcome::Damaged(_, failure) => Some(failure),
         _ => None,
     }
 }
 
-/// Whether an upgrade cannot proceed without an entry. Offline it can, unless a registry on this machine is
-/// broken.
+/// Whether an upgrade cannot proceed without an entry. Offline it can, unless the folder of a registry on
+/// this machine does not exist.
 fn is_fatal(failure: Failure, offline: bool) -> bool
     ensures { result ≡ is_fatal offline failure.entry }
 {
     match failure {
         Failure::NoFolder => true,
-        Failure::BadLine(_) => true,
         _ => !offline,
     }
 }

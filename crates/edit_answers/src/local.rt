@@ -1,17 +1,15 @@
 //! Lookups in registries that are folders of this machine.
 ghost use Rattle.std.specs.Prelude.{◌≡◌, ℕ, List, true, false, IfErr, IfOk, MatchOption, string_bytes};
-ghost use Rattle.edit_answers.specs.Changes.{Changes, Fails};
+ghost use Rattle.edit_answers.specs.Changes.{Fails};
 ghost use Rattle.edit_answers.specs.Locals.{HasNoFolder, IsLocalFile, IsLocalFolder, IsPathText, HasExistingFolder, SettlesLocal, folder_of, without_slash};
-ghost use Rattle.edit_answers.specs.Outcomes.{Puts};
 ghost use Rattle.edit_answers.specs.Places.{local_path};
 ghost use Rattle.edit_lookups.specs.Lookups.{HasNo, lookup_text};
 ghost use Rattle.edit_store.specs.Store.{OnlyReads};
 
 use crate::meaning::{Failure, Outcome};
-use crate::places::{Places, index_path};
-use edit_base::{CargoResult, Error};
+use crate::renew_store::is_file;
+use edit_base::CargoResult;
 use edit_lookups::Lookup;
-use edit_sources::index_lines::read_lines;
 use edit_store::{Kind, Store};
 use percent_encoding::percent_decode;
 use std::alloc::{AllocError, Global};
@@ -115,44 +113,16 @@ pub fn local_path(alloc: Global, folder: &str, path: &str) -> Result<String, All
     format!(in alloc; "{folder}/{path}")
 }
 
-/// Writes the bytes of a local registry's file to where the upgrade reads them; `Failure::BadLine` where a
-/// line is malformed, and then nothing is written.
-fn put_local<'a, S: Store>(
-    alloc: Global,
-    files: &mut S,
-    places: &Places,
-    lookup: &Lookup,
-    bytes: &[u8],
-) -> CargoResult<Outcome<'a>>
-    ensures changes { Changes (Puts places.now (lookup_text lookup.now))
-        (Puts places.now (lookup_text lookup.now) Outcome.Fetched)
-        (S.view files.old) (S.view files.new) result }
-    ensures outcome { IfOk result (λ o. IsLocalFile bytes.now o) }
-{
-    match read_lines(alloc, bytes) {
-        Ok(_) => {}
-        Err(Error::IndexLine { line }) => return Ok(Outcome::Missing(Failure::BadLine(line))),
-        Err(error) => return Err(error),
-    }
-    let indexed = index_path(alloc, places.room, lookup)?;
-    match files.write(alloc, indexed.as_str(), bytes) {
-        Ok(()) => Ok(Outcome::Local),
-        Err(error) => Err(error),
-    }
-}
-
-/// Processes a lookup in a registry on this machine.
+/// Processes a lookup in a registry on this machine. Whether its file is a valid index file is not checked.
 pub fn settle_local<'a, S: Store>(
     alloc: Global,
     files: &mut S,
-    places: &Places,
     lookup: &Lookup,
 ) -> CargoResult<Outcome<'a>>
-    ensures changes { Changes (Puts places.now (lookup_text lookup.now))
-        (Puts places.now (lookup_text lookup.now) Outcome.Fetched)
-        (S.view files.old) (S.view files.new) result }
+    ensures reads { OnlyReads (S.view files.old) (S.view files.new) }
     ensures outcome { IfOk result (λ o. (S.view files.old).tells ≡ true
         → SettlesLocal (lookup_text lookup.now) (S.view files.old).file_at o) }
+    ensures error { IfErr result (Fails (S.view files.old).faults (S.view files.new).faults) }
 {
     let folder = match existing_folder(alloc, files, lookup.address) {
         Ok(Some(folder)) => folder,
@@ -160,9 +130,22 @@ pub fn settle_local<'a, S: Store>(
         Err(error) => return Err(error),
     };
     let path = local_path(alloc, folder.as_str(), lookup.path)?;
-    match files.read(alloc, path.as_str()) {
-        Ok(Some(bytes)) => put_local(alloc, files, places, lookup, &bytes),
-        Ok(None) => Ok(Outcome::Absent),
+    match is_file(alloc, files, path.as_str()) {
+        Ok(true) => Ok(Outcome::Local),
+        Ok(false) => Ok(Outcome::Absent),
         Err(error) => Err(error),
+    }
+}
+
+/// The path of the file of a lookup's entry in a registry on this machine; `None` where the registry's
+/// address names no folder.
+pub fn local_file(alloc: Global, lookup: &Lookup) -> Result<Option<String>, AllocError>
+    ensures { IfOk result (λ o. MatchOption o
+        ((file : List ℕ) → IsLocalFile (lookup_text lookup.now) file → ⊥)
+        (λ s. IsLocalFile (lookup_text lookup.now) (string_bytes s))) }
+{
+    match local_folder(alloc, lookup.address)? {
+        Some(folder) => Ok(Some(local_path(alloc, folder.as_str(), lookup.path)?)),
+        None => Ok(None),
     }
 }

@@ -2,14 +2,14 @@
 ghost use Rattle.std.specs.Prelude.{◌≡◌, true, IfOk, length, map};
 ghost use Rattle.edit_answers.specs.Changes.{Changes};
 ghost use Rattle.edit_answers.specs.OutcomeRules.{AllFollow, HasOutcome, MeansFor, answer_at, is_local, is_sparse};
-ghost use Rattle.edit_answers.specs.Outcomes.{Puts, PutsOne, PutsSome};
+ghost use Rattle.edit_answers.specs.Outcomes.{Puts, PutsOne, PutsSome, Stores};
 ghost use Rattle.edit_lookups.specs.Lookups.{lookup_text};
 
 use crate::answers::Answer;
-use crate::link_store::LinkStore;
 use crate::local::settle_local;
 use crate::meaning::{Failure, Meaning, Outcome, meaning_of};
 use crate::places::Places;
+use crate::renew_store::RenewStore;
 use crate::settle::settle;
 use edit_base::CargoResult;
 use edit_lookups::Lookup;
@@ -44,7 +44,7 @@ fn meaning_for<'a>(address: &str, offline: bool, answer: Option<Answer<'a>>) -> 
 }
 
 /// Processes a lookup, given its number from 1 and the outcome of its transfer.
-fn settle_one<'a, S: LinkStore>(
+fn settle_one<'a, S: RenewStore>(
     alloc: Global,
     files: &mut S,
     places: &Places,
@@ -59,9 +59,12 @@ fn settle_one<'a, S: LinkStore>(
     ensures follows { IfOk result (λ o. (S.view files.old).tells ≡ true
         → HasOutcome places.now (lookup_text lookup.now) number offline answer.entry
         (S.view files.old).file_at o) }
+    ensures stores { IfOk result (λ o. (S.view files.old).tells ≡ true
+        → Stores o places.now (lookup_text lookup.now) number
+        (S.view files.old).file_at (S.view files.new).file_at) }
 {
     if is_local(lookup.address.as_bytes()) {
-        return settle_local(alloc, files, places, lookup);
+        return settle_local(alloc, files, lookup);
     }
     let meaning = meaning_for(lookup.address, offline, answer);
     settle(alloc, files, places, lookup, number, meaning)
@@ -79,7 +82,7 @@ fn answer_at<'a>(answers: &[Option<Answer<'a>>], place: usize) -> Option<Answer<
 
 /// Processes the lookups, in order. The outcome of the transfer for lookup number `k`, from 1, is element `k
 /// - 1` of `answers`.
-pub fn settle_all<'a, S: LinkStore>(
+pub fn settle_all<'a, S: RenewStore>(
     alloc: Global,
     files: &mut S,
     places: &Places,
@@ -92,7 +95,7 @@ pub fn settle_all<'a, S: LinkStore>(
     ensures count { IfOk result (λ v. length v.items ≡ length lookups.now) }
     ensures follows { IfOk result (λ v. (S.view files.old).tells ≡ true
         → AllFollow places.now (map lookup_text lookups.now) offline answers.now (S.view files.old).file_at
-        v.items) }
+        (S.view files.new).file_at v.items) }
 {
     let mut outcomes = Vec::new(alloc);
     for (i, lookup) in lookups.iter().enumerate() {

@@ -26,8 +26,6 @@ pub enum Failure<'a> {
     NotAnIndex(Damage),
     /// The folder of a registry on this machine does not exist.
     NoFolder,
-    /// A line of a file of a registry on this machine is malformed.
-    BadLine(usize),
 }
 
 /// The meaning of a transfer for its entry.
@@ -51,11 +49,11 @@ pub enum Meaning<'a> {
 pub enum Outcome<'a> {
     /// A new body was stored in the cache.
     Fetched,
-    /// A new body, received after a redirect, was stored in the cache without a validator.
+    /// A new body, received after a redirect, was stored in the cache without an ETag.
     Moved,
     /// The cached entry is up to date.
     Current,
-    /// The entry was read from a folder of this machine.
+    /// The entry is a file in a registry on this machine.
     Local,
     /// The registry has no crate of this name.
     Absent,
@@ -63,8 +61,6 @@ pub enum Outcome<'a> {
     Cached(Failure<'a>),
     /// The entry could not be fetched, and none is cached.
     Missing(Failure<'a>),
-    /// The entry could not be fetched, and the cached one is damaged.
-    Damaged(Damage, Failure<'a>),
 }
 
 /// Whether an HTTP status means that there is no crate of this name: 404, 410 or 451.

@@ -3,15 +3,13 @@ ghost use Rattle.std.specs.Prelude.{◌≡◌, ◌++◌, IfOk, OnOk, codes, leng
 ghost use Rattle.std.specs.Fmt.{decimal};
 ghost use Rattle.std.specs.List.{flat_map};
 ghost use Rattle.edit_answers.specs.Groups.{GroupText, group_text, included_lookups};
-ghost use Rattle.edit_answers.specs.Messages.{IsReport, IsUnreadable, cached_line, cached_text, damage_line, damage_text, error_text, skipped_line, line_of, missing_line, names_text, message_address, unfetched_text};
+ghost use Rattle.edit_answers.specs.Messages.{IsReport, IsUnreadable, cached_line, cached_text, error_text, skipped_line, line_of, missing_line, names_text, message_address, unfetched_text};
 ghost use Rattle.edit_lookups.specs.ControlEscapes.{escape_controls};
 
-use crate::bodies::Damage;
 use crate::groups::{Consequence, Group, groups_with, included_lookups};
 use crate::meaning::Outcome;
-use crate::places::Places;
 use crate::reasons::escape_message;
-use edit_lookups::{Lookup, cached_path, push_escaped, strip_userinfo};
+use edit_lookups::{Lookup, push_escaped, strip_userinfo};
 use std::alloc::{AllocError, Global};
 
 /// The messages of a run: its warnings, each with a line end, and the error that ends it with status 1, if
@@ -178,53 +176,6 @@ pub fn malformed_report(alloc: Global) -> Result<Report, AllocError>
     })
 }
 
-/// The warning about a damaged file in the cache.
-fn damage_text(alloc: Global, path: &str, damage: Damage) -> Result<String, AllocError>
-    ensures { IfOk result (λ s. string_bytes s ≡ damage_text path.now damage) }
-{
-    let path = escape_message(alloc, path)?;
-    match damage {
-        Damage::BadLine(line) => {
-            let place = format!(in alloc; "{path}:{line}")?;
-            let what = format!(in alloc; "{place} is no index line, so the file is not used")?;
-            format!(in alloc; "warning: the cached index entry {what}: remove it\n")
-        }
-        Damage::NotWhole => format!(in alloc;
-            "warning: the cached index entry {path} is not whole, so the file is not used: remove it\n"
-        ),
-    }
-}
-
-/// The warning about a lookup whose cached entry is damaged; empty for any other lookup.
-fn damage_line(
-    alloc: Global,
-    cache: &str,
-    pair: &(Lookup<'_>, Outcome<'_>),
-) -> Result<String, AllocError>
-    ensures { IfOk result (λ s. string_bytes s ≡ damage_line cache.now pair.now) }
-{
-    let Outcome::Damaged(damage, _) = pair.1 else {
-        return Ok(String::new(alloc));
-    };
-    let path = cached_path(alloc, cache, &pair.0)?;
-    damage_text(alloc, path.as_str(), damage)
-}
-
-/// The warnings about the lookups whose cached entries are damaged.
-fn damage_lines(
-    alloc: Global,
-    cache: &str,
-    pairs: &[(Lookup<'_>, Outcome<'_>)],
-) -> Result<String, AllocError>
-    ensures { IfOk result (λ s. string_bytes s ≡ flat_map (damage_line cache.now) pairs.now) }
-{
-    let mut text = String::new(alloc);
-    for pair in pairs {
-        text.push_str(damage_line(alloc, cache, pair)?.as_str())?;
-    }
-    Ok(text)
-}
-
 /// The error about the groups that the upgrade cannot proceed without; `None` if there are none.
 fn error_of(alloc: Global, groups: &[Group<'_>]) -> Result<Option<String>, AllocError>
     ensures { IfOk result (λ o. option_map string_bytes o ≡ error_text (map group_text groups.now)) }
@@ -241,18 +192,16 @@ fn error_of(alloc: Global, groups: &[Group<'_>]) -> Result<Option<String>, Alloc
     Ok(Some(text))
 }
 
-/// Formats the messages about the results of lookups: a warning for each damaged entry, one for each
-/// registry whose cached entries are used, one for each registry whose crates are not upgraded, and an error
-/// with a line for each registry that the upgrade cannot proceed without. Crates that are excluded from the
-/// upgrade are not mentioned.
+/// Formats the messages about the results of lookups: a warning for each registry whose cached entries are
+/// used, one for each registry whose crates are not upgraded, and an error with a line for each registry that
+/// the upgrade cannot proceed without. Crates that are excluded from the upgrade are not mentioned.
 pub fn report_of(
     alloc: Global,
-    places: &Places,
     lookups: &[Lookup<'_>],
     outcomes: &[Outcome<'_>],
     options: &StoreOptions<'_>,
 ) -> Result<Report, AllocError>
-    ensures { IfOk result (IsReport places.now.cache.now options.now.offline
+    ensures { IfOk result (IsReport options.now.offline
         (included_lookups options.now.excluded.now lookups.now outcomes.now)) }
 {
     let offline = options.offline;
@@ -260,7 +209,7 @@ pub fn report_of(
     let cached = groups_with(alloc, Consequence::Cached, offline, &pairs)?;
     let left = groups_with(alloc, Consequence::Left, offline, &pairs)?;
     let missing = groups_with(alloc, Consequence::Missing, offline, &pairs)?;
-    let mut warnings = damage_lines(alloc, places.cache, &pairs)?;
+    let mut warnings = String::new(alloc);
     push_lines(alloc, &mut warnings, Consequence::Cached, &cached)?;
     push_lines(alloc, &mut warnings, Consequence::Left, &left)?;
     let error = error_of(alloc, &missing)?;

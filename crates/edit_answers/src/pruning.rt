@@ -9,15 +9,16 @@ use edit_base::{CargoResult, Error};
 use std::alloc::{AllocError, Global};
 use std::collections::BTreeSet;
 
-/// The number of days after which an unused entry is removed. A run that uses an entry rewrites its
-/// validator.
+/// The number of days after which an unused entry is removed. A run that uses an entry sets its modification
+/// time.
 const UNUSED: u64 = 90;
 
 /// The number of days after which the working folder of a killed run is removed. A run that ends removes its
 /// own.
 const LEFT: u64 = 1;
 
-/// The path of an entry, given its own path or that of its validator.
+/// The path of an entry, given its own path or that of the `.etag` file beside it, which older versions of
+/// this program wrote.
 fn entry_of(path: &str) -> &str
     ensures { result.now ≡ entry_of path.now }
 {
@@ -100,9 +101,9 @@ fn remove_unused<S: AgingStore>(
     }
 }
 
-/// Removes the entries of a cache with their validators that were not modified for 90 days, and the working
-/// folders of runs that were not modified for a day. A file that the system does not let be removed stays;
-/// errors are lack of memory, and a failure to list the files.
+/// Removes the entries of a cache that were not modified for 90 days, with the `.etag` files beside them, and
+/// the working folders of runs that were not modified for a day. A file that the system does not let be
+/// removed stays; errors are lack of memory, and a failure to list the files.
 pub fn prune<S: AgingStore>(alloc: Global, cache: &mut S) -> CargoResult<()>
     ensures { Prunes (S.aging cache.old) (S.aging cache.new) result }
 {

@@ -1,11 +1,10 @@
 //! The reasons in messages why entries could not be fetched.
-ghost use Rattle.std.specs.Prelude.{◌≡◌, ◌++◌, ℕ, List, IfOk, MatchOption, codes, string_bytes};
-ghost use Rattle.edit_answers.specs.Reasons.{IsFileOf, IsReason, bad_line_text, body_text, entry_line_text, malformed_text, not_whole_text, curl_text, status_text};
+ghost use Rattle.std.specs.Prelude.{◌≡◌, IfOk, string_bytes};
+ghost use Rattle.edit_answers.specs.Reasons.{IsReason, body_text, entry_line_text, malformed_text, not_whole_text, curl_text, status_text};
 ghost use Rattle.edit_lookups.specs.ControlEscapes.{escape_controls};
 ghost use Rattle.edit_lookups.specs.Lookups.{lookup_text};
 
 use crate::bodies::Damage;
-use crate::local::{local_folder, local_path};
 use crate::meaning::Failure;
 use edit_lookups::{Lookup, push_escaped};
 use std::alloc::{AllocError, Global};
@@ -17,16 +16,6 @@ pub(crate) fn escape_message(alloc: Global, text: &str) -> Result<String, AllocE
     let mut shown = String::new(alloc);
     push_escaped(&mut shown, text)?;
     Ok(shown)
-}
-
-/// The path of an entry's file in a registry on this machine; empty where the address names no folder.
-fn file_of(alloc: Global, lookup: &Lookup) -> Result<String, AllocError>
-    ensures { IfOk result (λ s. IsFileOf (lookup_text lookup.now) (string_bytes s)) }
-{
-    match local_folder(alloc, lookup.address)? {
-        Some(folder) => local_path(alloc, folder.as_str(), lookup.path),
-        None => Ok(String::new(alloc)),
-    }
 }
 
 /// Formats a failed transfer: curl's message, and its exit code.
@@ -49,14 +38,6 @@ fn status_text(alloc: Global, code: &str) -> Result<String, AllocError>
 {
     let code = escape_message(alloc, code)?;
     format!(in alloc; "status {code}")
-}
-
-/// Formats a malformed line of an index.
-fn bad_line_text(alloc: Global, line: usize, path: &str) -> Result<String, AllocError>
-    ensures { IfOk result (λ s. string_bytes s ≡ bad_line_text line path.now) }
-{
-    let path = escape_message(alloc, path)?;
-    format!(in alloc; "invalid index line {line} of {path}")
 }
 
 /// Formats the place of a line in the entry of a crate.
@@ -114,9 +95,5 @@ pub(crate) fn reason_of(
         Failure::Status(code) => status_text(alloc, code),
         Failure::NotAnIndex(damage) => body_text(alloc, lookup.name, damage),
         Failure::NoFolder => String::from_str(alloc, "there is no such folder"),
-        Failure::BadLine(line) => {
-            let path = file_of(alloc, lookup)?;
-            bad_line_text(alloc, line, path.as_str())
-        }
     }
 }

@@ -1,21 +1,21 @@
 //! Processes a lookup.
-ghost use Rattle.std.specs.Prelude.{◌≡◌, ℕ, List, Some, true, IfErr, IfOk, MatchResult};
+ghost use Rattle.std.specs.Prelude.{◌≡◌, Some, true, IfErr, IfOk, MatchResult};
 ghost use Rattle.edit_answers.specs.Bodies.{IsWholeIndex};
 ghost use Rattle.edit_answers.specs.Changes.{Changes, Fails};
 ghost use Rattle.edit_answers.specs.Meanings.{new_meaning};
-ghost use Rattle.edit_answers.specs.Outcomes.{FromCache, HasDamage, IsBodyDamage, Puts, PutsIndexed, Settles, by_cached, by_link, stored_outcome};
-ghost use Rattle.edit_answers.specs.Places.{index_path};
+ghost use Rattle.edit_answers.specs.Outcomes.{IsBodyDamage, Puts, Settles, Stores, StoresBody, by_cached, stored_outcome};
+ghost use Rattle.edit_answers.specs.Places.{etag_path};
 ghost use Rattle.edit_lookups.specs.CachePaths.{cached_path};
 ghost use Rattle.edit_lookups.specs.Lookups.{lookup_text};
 ghost use Rattle.edit_store.specs.Store.{OnlyReads};
 
 use crate::bodies::{Damage, damage_of};
-use crate::link_store::LinkStore;
+use crate::etags::entry_text;
 use crate::meaning::{Failure, Meaning, Outcome};
-use crate::places::{Places, body_path, index_path};
-use crate::validators::{renew_validator, store_direct};
+use crate::places::{Places, body_path, etag_path};
+use crate::renew_store::RenewStore;
 use edit_base::CargoResult;
-use edit_lookups::{Lookup, cached_path, validator_path};
+use edit_lookups::{Lookup, cached_path};
 use edit_store::Store;
 use std::alloc::Global;
 
@@ -45,39 +45,8 @@ fn read_body<S: Store>(
     }
 }
 
-/// The result of a lookup: `had` if there is a cached entry, else `Outcome::Missing`.
-fn by_link<'a>(is_cached: bool, had: Outcome<'a>, lost: Failure<'a>) -> Outcome<'a>
-    ensures { result ≡ by_link is_cached had.entry lost.entry }
-{
-    if is_cached {
-        had
-    } else {
-        Outcome::Missing(lost)
-    }
-}
-
-/// Why the cached entry at a path is damaged; `None` where it is complete, or there is none.
-fn cached_damage<S: Store>(
-    alloc: Global,
-    files: &mut S,
-    name: &str,
-    path: &str,
-) -> CargoResult<Option<Damage>>
-    ensures reads { OnlyReads (S.view files.old) (S.view files.new) }
-    ensures damage { IfOk result (λ o. (S.view files.old).tells ≡ true
-        → HasDamage name.now ((S.view files.old).file_at path.now) o) }
-    ensures error { IfErr result (Fails (S.view files.old).faults (S.view files.new).faults) }
-{
-    match files.read(alloc, path) {
-        Ok(Some(bytes)) => Ok(damage_of(alloc, name, &bytes)?),
-        Ok(None) => Ok(None),
-        Err(error) => Err(error),
-    }
-}
-
-/// Links the cached entry of a lookup to where the upgrade reads it. The result is `had` if there is such an
-/// entry.
-fn link_cached<'a, S: LinkStore>(
+/// Uses the cached entry of a lookup. The result is `had` if there is one, else `Outcome::Missing`.
+fn from_cache<'a, S: RenewStore>(
     alloc: Global,
     files: &mut S,
     places: &Places,
@@ -85,89 +54,18 @@ fn link_cached<'a, S: LinkStore>(
     had: Outcome<'a>,
     lost: Failure<'a>,
 ) -> CargoResult<Outcome<'a>>
-    ensures changes { Changes (λ _. PutsIndexed places.now (lookup_text lookup.now))
-        (PutsIndexed places.now (lookup_text lookup.now)) (S.view files.old) (S.view files.new) result }
+    ensures reads { OnlyReads (S.view files.old) (S.view files.new) }
     ensures outcome { IfOk result (λ o. (S.view files.old).tells ≡ true → o ≡ by_cached
         ((S.view files.old).file_at (cached_path places.now.cache.now (lookup_text lookup.now)))
         had.entry lost.entry) }
-    ensures linked { IfOk result (λ _. (S.view files.old).tells ≡ true → (bytes : List ℕ)
-        → (S.view files.old).file_at (cached_path places.now.cache.now (lookup_text lookup.now)) ≡ Some bytes
-        → (S.view files.new).file_at (index_path places.now.room.now (lookup_text lookup.now)) ≡ Some bytes) }
+    ensures error { IfErr result (Fails (S.view files.old).faults (S.view files.new).faults) }
 {
     let entry = cached_path(alloc, places.cache, lookup)?;
-    let indexed = index_path(alloc, places.room, lookup)?;
-    match files.link(alloc, entry.as_str(), indexed.as_str()) {
-        Ok(is_cached) => Ok(by_link(is_cached, had, lost)),
+    match files.renew(alloc, entry.as_str()) {
+        Ok(true) => Ok(had),
+        Ok(false) => Ok(Outcome::Missing(lost)),
         Err(error) => Err(error),
     }
-}
-
-/// Links the cached entry of a lookup to where the upgrade reads it, unless it is damaged. The result is
-/// `had` if there is such an entry.
-fn from_cache<'a, S: LinkStore>(
-    alloc: Global,
-    files: &mut S,
-    places: &Places,
-    lookup: &Lookup,
-    had: Outcome<'a>,
-    lost: Failure<'a>,
-) -> CargoResult<Outcome<'a>>
-    ensures changes { Changes (λ _. PutsIndexed places.now (lookup_text lookup.now))
-        (PutsIndexed places.now (lookup_text lookup.now)) (S.view files.old) (S.view files.new) result }
-    ensures outcome { IfOk result (λ o. (S.view files.old).tells ≡ true
-        → FromCache lookup.now.name.now had.entry lost.entry
-        ((S.view files.old).file_at (cached_path places.now.cache.now (lookup_text lookup.now))) o) }
-{
-    let entry = cached_path(alloc, places.cache, lookup)?;
-    match cached_damage(alloc, files, lookup.name, entry.as_str()) {
-        Ok(Some(damage)) => Ok(Outcome::Damaged(damage, lost)),
-        Ok(None) => link_cached(alloc, files, places, lookup, had, lost),
-        Err(error) => Err(error),
-    }
-}
-
-/// Stores the body of a transfer as the entry of a lookup, if it is a complete index file. With `is_direct`
-/// no redirect was followed.
-fn settle_new<'a, S: LinkStore>(
-    alloc: Global,
-    files: &mut S,
-    places: &Places,
-    lookup: &Lookup,
-    number: usize,
-    is_direct: bool,
-) -> CargoResult<Outcome<'a>>
-    ensures changes { Changes (Puts places.now (lookup_text lookup.now))
-        (Puts places.now (lookup_text lookup.now) Outcome.Fetched)
-        (S.view files.old) (S.view files.new) result }
-    ensures outcome { IfOk result (λ o. (S.view files.old).tells ≡ true
-        → Settles places.now (lookup_text lookup.now) number (S.view files.old).file_at
-        (new_meaning is_direct) o) }
-{
-    let body_path = body_path(alloc, places.room, number)?;
-    let body = match read_body(alloc, files, lookup.name, body_path.as_str()) {
-        Ok(Ok(body)) => body,
-        Ok(Err(damage)) => {
-            let failure = Failure::NotAnIndex(damage);
-            return from_cache(
-                alloc,
-                files,
-                places,
-                lookup,
-                Outcome::Cached(failure),
-                failure,
-            );
-        }
-        Err(error) => return Err(error),
-    };
-    store_body(
-        alloc,
-        files,
-        places,
-        lookup,
-        body_path.as_str(),
-        &body,
-        is_direct,
-    )
 }
 
 /// The result of a lookup whose new body is stored.
@@ -181,8 +79,8 @@ fn stored_outcome<'a>(is_direct: bool) -> Outcome<'a>
     }
 }
 
-/// Stores a body as the entry of a lookup, with its validator if no redirect was followed.
-fn store_body<'a, S: LinkStore>(
+/// Stores a body as the entry of a lookup, with the ETag of its response if no redirect was followed.
+fn store_body<'a, S: Store>(
     alloc: Global,
     files: &mut S,
     places: &Places,
@@ -195,72 +93,58 @@ fn store_body<'a, S: LinkStore>(
     ensures changes { Changes (Puts places.now (lookup_text lookup.now))
         (Puts places.now (lookup_text lookup.now) Outcome.Fetched)
         (S.view files.old) (S.view files.new) result }
-    ensures outcome { IfOk result (λ o. (S.view files.old).tells ≡ true → o ≡ stored_outcome is_direct) }
+    ensures stores { IfOk result (λ o. (S.view files.old).tells ≡ true → (o ≡ stored_outcome is_direct)
+        × StoresBody is_direct
+        (cached_path places.now.cache.now (lookup_text lookup.now)) (etag_path body_path.now) body.now
+        (S.view files.old).file_at (S.view files.new).file_at) }
 {
     let entry = cached_path(alloc, places.cache, lookup)?;
-    let etag_path = validator_path(alloc, body_path)?;
-    match files.write(alloc, entry.as_str(), body) {
-        Ok(()) => {}
-        Err(error) => return Err(error),
-    }
-    let outcome = match link_cached(
-        alloc,
-        files,
-        places,
-        lookup,
-        stored_outcome(is_direct),
-        Failure::Unanswered,
-    ) {
-        Ok(outcome) => outcome,
+    let etag_path = etag_path(alloc, body_path)?;
+    let text = match entry_text(alloc, files, etag_path.as_str(), body, is_direct) {
+        Ok(text) => text,
         Err(error) => return Err(error),
     };
-    match store_direct(
-        alloc,
-        files,
-        entry.as_str(),
-        etag_path.as_str(),
-        body,
-        is_direct,
-    ) {
-        Ok(()) => Ok(outcome),
+    match files.write(alloc, entry.as_str(), &text) {
+        Ok(()) => Ok(stored_outcome(is_direct)),
         Err(error) => Err(error),
     }
 }
 
-/// Uses the cached entry of a lookup, which is up to date.
-fn settle_current<'a, S: LinkStore>(
+/// Stores the body of a transfer as the entry of a lookup, if it is a complete index file. With `is_direct`
+/// no redirect was followed.
+fn settle_new<'a, S: RenewStore>(
     alloc: Global,
     files: &mut S,
     places: &Places,
     lookup: &Lookup,
+    number: usize,
+    is_direct: bool,
 ) -> CargoResult<Outcome<'a>>
     ensures changes { Changes (Puts places.now (lookup_text lookup.now))
         (Puts places.now (lookup_text lookup.now) Outcome.Fetched)
         (S.view files.old) (S.view files.new) result }
-    ensures outcome { IfOk result (λ o. (S.view files.old).tells ≡ true → (number : ℕ)
+    ensures outcome { IfOk result (λ o. (S.view files.old).tells ≡ true
         → Settles places.now (lookup_text lookup.now) number (S.view files.old).file_at
-        Meaning.NotModified o) }
+        (new_meaning is_direct) o) }
+    ensures stores { IfOk result (λ o. (S.view files.old).tells ≡ true
+        → Stores o places.now (lookup_text lookup.now) number
+        (S.view files.old).file_at (S.view files.new).file_at) }
 {
-    let entry = cached_path(alloc, places.cache, lookup)?;
-    let outcome = match from_cache(
-        alloc,
-        files,
-        places,
-        lookup,
-        Outcome::Current,
-        Failure::Status("304"),
-    ) {
-        Ok(outcome) => outcome,
-        Err(error) => return Err(error),
-    };
-    match renew_validator(alloc, files, entry.as_str()) {
-        Ok(()) => Ok(outcome),
+    let body_path = body_path(alloc, places.room, number)?;
+    let path = body_path.as_str();
+    match read_body(alloc, files, lookup.name, path) {
+        Ok(Ok(body)) => store_body(alloc, files, places, lookup, path, &body, is_direct),
+        Ok(Err(damage)) => {
+            let failure = Failure::NotAnIndex(damage);
+            let had = Outcome::Cached(failure);
+            from_cache(alloc, files, places, lookup, had, failure)
+        }
         Err(error) => Err(error),
     }
 }
 
 /// Processes a lookup, given the meaning of its transfer.
-pub fn settle<'a, S: LinkStore>(
+pub fn settle<'a, S: RenewStore>(
     alloc: Global,
     files: &mut S,
     places: &Places,
@@ -273,21 +157,21 @@ pub fn settle<'a, S: LinkStore>(
         (S.view files.old) (S.view files.new) result }
     ensures outcome { IfOk result (λ o. (S.view files.old).tells ≡ true
         → Settles places.now (lookup_text lookup.now) number (S.view files.old).file_at meaning.entry o) }
+    ensures stores { IfOk result (λ o. (S.view files.old).tells ≡ true
+        → Stores o places.now (lookup_text lookup.now) number
+        (S.view files.old).file_at (S.view files.new).file_at) }
 {
     match meaning {
         Meaning::New => settle_new(alloc, files, places, lookup, number, true),
         Meaning::Moved => settle_new(alloc, files, places, lookup, number, false),
-        Meaning::NotModified => settle_current(alloc, files, places, lookup),
+        Meaning::NotModified => {
+            let lost = Failure::Status("304");
+            from_cache(alloc, files, places, lookup, Outcome::Current, lost)
+        }
         Meaning::Absent => Ok(Outcome::Absent),
         Meaning::Failed(failure) => {
-            from_cache(
-                alloc,
-                files,
-                places,
-                lookup,
-                Outcome::Cached(failure),
-                failure,
-            )
+            let had = Outcome::Cached(failure);
+            from_cache(alloc, files, places, lookup, had, failure)
         }
     }
 }

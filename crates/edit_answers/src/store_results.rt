@@ -1,16 +1,15 @@
 //! Processes the results of a fetch.
-ghost use Rattle.std.specs.Prelude.{◌≡◌, ◌∷◌, ◌++◌, true, IfErr, IfOk, map, string_bytes};
+ghost use Rattle.std.specs.Prelude.{◌≡◌, ◌∷◌, ◌++◌, true, IfErr, IfOk, string_bytes};
 ghost use Rattle.edit_answers.specs.Changes.{Changes, Fails};
-ghost use Rattle.edit_answers.specs.Outcomes.{PutsSome};
-ghost use Rattle.edit_answers.specs.StoredResults.{PutsOf, Reports, ReportsOn, text_of};
-ghost use Rattle.edit_lookups.specs.Lookups.{lookup_text};
+ghost use Rattle.edit_answers.specs.StoredResults.{PutsOf, PutsRun, Reports, ReportsOn, text_of};
 ghost use Rattle.edit_store.specs.Store.{OnlyReads};
 
 use crate::answers::read_answers;
-use crate::link_store::LinkStore;
+use crate::listing::write_list;
 use crate::lookups::settle_all;
 use crate::messages::{Report, StoreOptions, malformed_report, report_of};
 use crate::places::Places;
+use crate::renew_store::RenewStore;
 use edit_base::CargoResult;
 use edit_lookups::{Lookup, read_lookups};
 use edit_store::Store;
@@ -46,18 +45,19 @@ fn read_from_room<S: Store>(
     read_text(alloc, files, path.as_str())
 }
 
-/// Stores the bodies that were fetched for these lookups, and reports the missing entries.
-fn store_lookups<S: LinkStore>(
+/// Stores the bodies that were fetched for these lookups, reports the missing entries, and lists the
+/// available ones.
+fn store_lookups<S: RenewStore>(
     alloc: Global,
     files: &mut S,
     places: &Places,
     lookups: &[Lookup<'_>],
     options: &StoreOptions<'_>,
 ) -> CargoResult<Report>
-    ensures changes { Changes (λ _. PutsSome places.now (map lookup_text lookups.now))
-        (PutsSome places.now (map lookup_text lookups.now)) (S.view files.old) (S.view files.new) result }
-    ensures report { IfOk result (λ r. (S.view files.old).tells ≡ true
-        → ReportsOn places.now options.now (S.view files.old).file_at lookups.now r) }
+    ensures changes { Changes (λ _. PutsRun places.now lookups.now) (PutsRun places.now lookups.now)
+        (S.view files.old) (S.view files.new) result }
+    ensures report { IfOk result (λ r. (S.view files.old).tells ≡ true → ReportsOn places.now options.now
+        (S.view files.old).file_at (S.view files.new).file_at lookups.now r) }
 {
     let text = match read_from_room(alloc, files, places.room, "answers") {
         Ok(text) => text,
@@ -68,12 +68,16 @@ fn store_lookups<S: LinkStore>(
         Ok(outcomes) => outcomes,
         Err(error) => return Err(error),
     };
-    Ok(report_of(alloc, places, lookups, &outcomes, options)?)
+    let report = report_of(alloc, lookups, &outcomes, options)?;
+    match write_list(alloc, files, places, lookups, &outcomes) {
+        Ok(()) => Ok(report),
+        Err(error) => Err(error),
+    }
 }
 
-/// Stores the bodies that were fetched for the lookups of a run in the cache, links each available entry to
-/// where the upgrade reads it, and reports the missing entries.
-pub fn store_answers<S: LinkStore>(
+/// Stores the bodies that were fetched for the lookups of a run in the cache, reports the missing entries,
+/// and last writes the list of the available ones to the file `index` of the working folder.
+pub fn store_answers<S: RenewStore>(
     alloc: Global,
     files: &mut S,
     places: &Places,
@@ -81,8 +85,8 @@ pub fn store_answers<S: LinkStore>(
 ) -> CargoResult<Report>
     ensures changes { Changes (λ _. PutsOf places.now (S.view files.old).file_at)
         (PutsOf places.now (S.view files.old).file_at) (S.view files.old) (S.view files.new) result }
-    ensures report { IfOk result (λ r. (S.view files.old).tells ≡ true
-        → Reports places.now options.now (S.view files.old).file_at r) }
+    ensures report { IfOk result (λ r. (S.view files.old).tells ≡ true → Reports places.now options.now
+        (S.view files.old).file_at (S.view files.new).file_at r) }
 {
     let text = match read_from_room(alloc, files, places.room, "lookups") {
         Ok(text) => text,

@@ -4,8 +4,9 @@ mod registry_errors;
 
 use clap::ArgMatches;
 use cli_machine::{
-    FetchArguments, all_configs, excluded_names, filled_args, git_protocol_place, metadata_file,
-    network_settings, print_fetch_usage, read_arguments, upgrade_matches, write_configurations,
+    FetchArguments, all_configs, excluded_names, filled_args, git_protocol_place, index_files,
+    metadata_file, network_settings, print_fetch_usage, read_arguments, upgrade_matches,
+    write_configurations,
 };
 use edit_base::paths::join;
 use edit_base::{CargoResult, DeviceCall, Error};
@@ -137,7 +138,7 @@ fn upgrade_lookups<E: Write>(
         args.push(*argument)?;
     }
     let mut files = HostStore::new(rt.clone()?);
-    let index_files = HostStore::new(rt.clone()?);
+    let index_files = index_files(rt, current, None)?;
     Ok(run(
         rt.alloc(),
         &args,

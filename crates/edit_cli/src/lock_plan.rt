@@ -3,7 +3,9 @@
 use crate::lock_plan_json::lock_plan_text;
 use crate::unpublished::print_unpublished;
 use clap::ArgMatches;
-use cli_machine::{ReportOptions, filled_args, output, report_errors, upgrade_matches};
+use cli_machine::{
+    ReportOptions, filled_args, index_files, index_folder, output, report_errors, upgrade_matches,
+};
 use edit_base::{CargoResult, Error};
 use edit_program::{LockPlan, RunFolders, lock_plan};
 use edit_store::HostStore;
@@ -31,7 +33,7 @@ pub(crate) fn print_lock_plan<E: Write>(
         cargo_home: home,
     };
     let mut files = HostStore::new(rt.clone()?);
-    let index_files = HostStore::new(rt.clone()?);
+    let index_files = index_files(rt, current, index_folder(upgrade))?;
     match lock_plan(rt.alloc(), upgrade, &place, &mut files, index_files, err) {
         Ok(Some(planned)) => print_plan(rt, upgrade, current, &planned),
         Ok(None) => Ok(2),

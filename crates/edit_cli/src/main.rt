@@ -13,8 +13,8 @@ mod unpublished;
 
 use clap::ArgMatches;
 use cli_machine::{
-    Folders, ReportOptions, cargo_home, errors, fault_of, machine_error, output, report_errors,
-    report_output,
+    Folders, ReportOptions, at_listed_file, cargo_home, errors, fault_of, index_files,
+    index_folder, machine_error, output, report_errors, report_output,
 };
 use edit_base::{CargoResult, Error};
 use edit_program::{RunFolders, try_run};
@@ -130,7 +130,7 @@ fn start(rt: &HostRuntime) -> CargoResult<u8> {
     let command = command(rt.alloc())?;
     let matches = match command.try_get_matches_from(filled.as_slice()) {
         Ok(matches) => matches,
-        Err(_) => return run_at(rt, args, NO_FOLDERS, NO_OPTIONS),
+        Err(_) => return run_at(rt, args, NO_FOLDERS, NO_OPTIONS, None),
     };
     start_in(rt, args, matches.subcommand())
 }
@@ -199,18 +199,25 @@ fn run_checked(
         format: matches.get_str("message-format"),
         color: matches.get_str("color"),
     };
-    run_at(rt, args, folders, options)
+    let index = if name == "upgrade" {
+        index_folder(matches)
+    } else {
+        None
+    };
+    run_at(rt, args, folders, options, index)
 }
 
-/// Runs a subcommand of `edit_program`, with streams for a report with these options.
+/// Runs a subcommand of `edit_program`, with streams for a report with these options, and with the index in
+/// this folder or list.
 fn run_at(
     rt: &HostRuntime,
     args: &[&str],
     folders: Folders<'_>,
     options: ReportOptions<'_>,
+    index: Option<&str>,
 ) -> CargoResult<u8> {
     let mut files = HostStore::for_process(rt.clone()?, process::id(rt.process()));
-    let index_files = HostStore::new(rt.clone()?);
+    let index_files = index_files(rt, folders.current, index)?;
     let mut out = report_output(rt, options)?;
     let mut err = report_errors(rt, options)?;
     let place = RunFolders {
@@ -228,7 +235,10 @@ fn run_at(
     );
     let status = match result {
         Ok(status) => status,
-        Err(failure) => end_with(rt.alloc(), failure, options.is_json(), &mut out, &mut err),
+        Err(failure) => {
+            let failure = at_listed_file(rt, folders.current, index, failure);
+            end_with(rt.alloc(), failure, options.is_json(), &mut out, &mut err)
+        }
     };
     let is_printed = out.flush().is_ok();
     let _ = err.flush();

@@ -20,7 +20,7 @@ pub(crate) fn run_fileless(rt: &HostRuntime, args: &[&str]) -> CargoResult<u8> {
     };
     let mut err = errors(rt)?;
     match *first {
-        "check-curl" => Ok(check_curl(arguments, &mut err)),
+        "check-curl" => Ok(check_curl(arguments.first().copied().unwrap_or(""), &mut err)),
         "credential-reply" => credential_reply(rt, arguments, &mut err),
         "error-message" => print_error_message(rt.alloc(), arguments, &mut output(rt)?),
         "plan" => plan::plan(rt, arguments, &mut err),

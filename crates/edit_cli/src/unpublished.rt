@@ -1,12 +1,12 @@
 //! Warnings about `--package NAME@REQ` where REQ admits no published version of the crate.
 
+use cli_machine::{IndexFiles, index_files};
 use edit_base::CargoResult;
-use edit_base::paths::join;
 use edit_program::LockPlan;
 use edit_report::{Change, shell_warn};
 use edit_sources::index_dir::DirIndex;
 use edit_sources::{Index, IndexKrate};
-use edit_store::HostStore;
+use edit_steps::absolute_path;
 use edit_version::floors::floor;
 use edit_version::{CrateSpec, Requirement, admits, allows_prerelease, read_version};
 use semver::{Comparator, Version};
@@ -42,9 +42,10 @@ pub(crate) fn print_unpublished<E: Write>(
     let Some(folder) = index_dir else {
         return Ok(());
     };
-    let folder = join(rt.alloc(), current, folder)?;
+    let files = index_files(rt, current, Some(folder))?;
+    let folder = absolute_path(rt.alloc(), current, folder)?;
     // (all versions: those of the plan are restricted by its policy and its time)
-    let mut index = DirIndex::new(HostStore::new(rt.clone()?), folder);
+    let mut index = DirIndex::new(files, folder);
     for argument in &planned.options.package {
         let spec = CrateSpec::resolve(rt.alloc(), argument.as_str())?;
         let name = spec.name.as_str();
@@ -76,7 +77,7 @@ fn is_set(planned: &LockPlan, name: &str) -> bool {
 /// Compares the versions of a crate, in the registries of a plan, with a requirement.
 fn compare_versions(
     alloc: Global,
-    index: &mut DirIndex<HostStore<HostRuntime>>,
+    index: &mut DirIndex<IndexFiles>,
     planned: &LockPlan,
     name: &str,
     text: &str,

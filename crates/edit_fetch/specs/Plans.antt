@@ -1,13 +1,13 @@
 -- The plan of the transfers for lookups, and the files that hold it.
-use Rattle.std.specs.Prelude.{◌≡◌, ℕ, ◌+◌, List, [], ◌∷◌, ◌++◌, Option, Some, None, Bool, true, false, ◌&&◌, ◌||◌, not, nat_eq, codes, drop, length, MatchBool, MatchOption, option_map, string_bytes, if◌then◌else◌}
-use Rattle.std.specs.List.{ends_with, list_any, starts_with}
+use Rattle.std.specs.Prelude.{◌≡◌, ◌≢◌, ℕ, ◌+◌, List, [], ◌∷◌, ◌++◌, Option, Some, None, Bool, true, false, ◌&&◌, ◌||◌, not, nat_eq, codes, drop, length, MatchBool, MatchOption, option_map, string_bytes, if◌then◌else◌}
+use Rattle.std.specs.List.{count_by, ends_with, list_any, starts_with}
 use Rattle.std.specs.Str.{bytes_eq}
-use Rattle.edit_lookups.specs.CachePaths.{cached_path, validator_path}
+use Rattle.edit_lookups.specs.CachePaths.{cached_path}
 use Rattle.edit_base.specs.declared.errors.DeviceCall.{DeviceCall}
 use Rattle.edit_base.specs.declared.errors.Error.{Error}
 use Rattle.edit_base.specs.declared.errors.Error.TheVariants.{Device}
 use Rattle.edit_lookups.specs.Lookups.{LookupText, HasLookupLines}
-use Rattle.edit_lookups.specs.Validators.{IsValidatorOf}
+use Rattle.edit_lookups.specs.CachedTexts.{IsCachedText}
 use Rattle.edit_fetch.specs.Tokens.{token_of}
 use Rattle.edit_fetch.specs.Transfers.{requests_text}
 use Rattle.edit_fetch.specs.declared.plan.FetchPlan.{FetchPlan}
@@ -36,19 +36,19 @@ with_slash text = if ends_with nat_eq text (codes "/") then text else text ++ 47
 abbrev pub fetched_url : LookupText → List ℕ
 fetched_url lookup = with_slash (drop 7 lookup.address) ++ lookup.path
 
--- the ETag of a cached entry: that of its validator, if the validator belongs to the entry's bytes
-abbrev pub IsCachedEtag : Option (List ℕ) → Option (List ℕ) → Option (List ℕ) → Type 0
-IsCachedEtag (Some body) (Some line) etag =
-    MatchOption etag ((e : List ℕ) → IsValidatorOf body line e → ⊥) (λ e. IsValidatorOf body line e)
-IsCachedEtag _ _ etag = etag ≡ None
+-- the ETag of a cached entry, given its file: that of the file's text, if it is not empty
+abbrev pub IsCachedEtag : Option (List ℕ) → Option (List ℕ) → Type 0
+IsCachedEtag (Some text) etag =
+    MatchOption etag ((e body : List ℕ) → IsCachedText text e body → e ≡ [])
+    (λ e. (e ≢ []) × (body : List ℕ) × IsCachedText text e body)
+IsCachedEtag None etag = etag ≡ None
 
 -- the request for a lookup with this number
 pub record IsRequest (files : Files) (plan : FetchPlan) (number : ℕ) (lookup : LookupText)
     (request : Request) : Type 0 where
   pub place : request.number ≡ number
   pub url : request.url.items ≡ fetched_url lookup
-  pub etag : IsCachedEtag (files (cached_path plan.cache.now lookup))
-      (files (validator_path (cached_path plan.cache.now lookup))) (option_map string_bytes request.etag)
+  pub etag : IsCachedEtag (files (cached_path plan.cache.now lookup)) (option_map string_bytes request.etag)
   pub token : option_map (λ t. t.now) request.token ≡ token_of plan.tokens.now lookup.address
 
 -- the requests for lookups, in their order; each lookup is numbered by its position, from 1
@@ -81,14 +81,16 @@ pub record HasFailedIn (before now : ℕ) (e : Error) : Type 0 where
 abbrev pub IsUnreadable : List ℕ → Type 0
 IsUnreadable text = (lookups : List LookupText) → HasLookupLines text lookups → ⊥
 
--- the file that is written for a text of lookups: the text; `count` is the number of the requests for them
-pub record IsPlanned (old new : Files) (plan : FetchPlan) (text : List ℕ) (count : ℕ) : Type 0 where
+-- the number of the requests for lookups: none offline
+abbrev pub request_count : FetchPlan → List LookupText → ℕ
+request_count plan lookups =
+    if plan.settings.now.offline then 0 else count_by (λ l. is_requested plan l.address) lookups
+
+-- the count is the number of the requests for a text of lookups
+pub record IsPlanned (plan : FetchPlan) (text : List ℕ) (count : ℕ) : Type 0 where
   pub lookups : List LookupText
-  pub requests : List Request
   pub said : HasLookupLines text lookups
-  pub made : AreEffectiveRequests old plan lookups requests
-  pub copied : new (working_file plan.room.now (codes "lookups")) ≡ Some text
-  pub counted : count ≡ length requests
+  pub counted : count ≡ request_count plan lookups
 
 -- the configuration of curl for a text of lookups: that of the requests for them
 pub record IsConfigOf (files : Files) (plan : FetchPlan) (text config : List ℕ) : Type 0 where
@@ -96,4 +98,5 @@ pub record IsConfigOf (files : Files) (plan : FetchPlan) (text config : List ℕ
   pub requests : List Request
   pub said : HasLookupLines text lookups
   pub made : AreEffectiveRequests files plan lookups requests
+  pub counted : length requests ≡ request_count plan lookups
   pub is : config ≡ requests_text plan.settings.now plan.room.now requests

@@ -1,11 +1,11 @@
 //! Plans the transfers for lookups, and writes the configuration that curl reads.
-ghost use Rattle.std.specs.Prelude.{◌≡◌, ◌≤◌, ◌⊎◌, Some, true, IfErr, IfOk, MatchOption, OnOk, codes};
+ghost use Rattle.std.specs.Prelude.{◌≡◌, ◌≤◌, ◌⊎◌, Some, true, IfErr, IfOk, IfSome, MatchOption, OnOk, codes};
 ghost use Rattle.edit_base.specs.Errors.{IsMemory};
 ghost use Rattle.edit_fetch.specs.Plans.{HasFailedIn, IsConfigOf, IsPlanned, IsUnreadable, working_file};
 ghost use Rattle.edit_sources.specs.ConfigurationFiles.{HasFailed};
 ghost use Rattle.edit_store.specs.Store.{OnlyReads, SameBut, SameFiles};
 
-use crate::requests::effective_requests;
+use crate::requests::{effective_requests, request_count};
 use crate::settings::NetSettings;
 use crate::tokens::Token;
 use crate::transfers::requests_text;
@@ -54,7 +54,8 @@ fn write_working_file<S: Store>(
 /// Plans the transfers for the lookups in a text, which it writes to the file `lookups` of the working
 /// folder. Returns the number of transfers; `None` where the text is malformed, and then no file is written.
 ///
-/// An entry is fetched if its registry uses the sparse protocol, unless the settings are offline.
+/// An entry is fetched if its registry uses the sparse protocol, unless the settings are offline. No cached
+/// file is read.
 pub fn fetch_plan<S: Store>(
     alloc: Global,
     store: &mut S,
@@ -63,8 +64,9 @@ pub fn fetch_plan<S: Store>(
 ) -> CargoResult<Option<usize>>
     ensures planned { IfOk result (λ o. MatchOption o (IsUnreadable text.now
         × SameFiles (S.view store.old).file_at (S.view store.new).file_at)
-        (λ n. (S.view store.old).tells ≡ true → IsPlanned (S.view store.old).file_at
-        (S.view store.new).file_at plan.now text.now n)) }
+        (λ n. IsPlanned plan.now text.now n)) }
+    ensures copied { IfOk result (λ o. IfSome o (λ _. (S.view store.old).tells ≡ true
+        → (S.view store.new).file_at (working_file plan.now.room.now (codes "lookups")) ≡ Some text.now)) }
     ensures others { SameBut (working_file plan.now.room.now (codes "lookups"))
         (S.view store.old).file_at (S.view store.new).file_at }
     ensures tells { (S.view store.new).tells ≡ (S.view store.old).tells }
@@ -74,12 +76,8 @@ pub fn fetch_plan<S: Store>(
     let Some(lookups) = read_lookups(alloc, text)? else {
         return Ok(None);
     };
-    let requests = match effective_requests(alloc, store, plan, &lookups) {
-        Ok(requests) => requests,
-        Err(error) => return Err(error),
-    };
     match write_working_file(alloc, store, plan.room, "lookups", text.as_bytes()) {
-        Ok(()) => Ok(Some(requests.len())),
+        Ok(()) => Ok(Some(request_count(plan, &lookups))),
         Err(error) => Err(error),
     }
 }

@@ -1,8 +1,9 @@
 //! The requests for lookups.
 ghost use Rattle.std.specs.Prelude.{◌≡◌, ◌++◌, ◌⊎◌, true, IfErr, IfOk, map, option_map, string_bytes};
+ghost use Rattle.std.specs.List.{count_by};
 ghost use Rattle.edit_base.specs.Errors.{IsMemory};
-ghost use Rattle.edit_fetch.specs.Plans.{AreEffectiveRequests, AreRequests, IsCachedEtag, IsRequest, fetched_url, is_requested, is_sparse_registry, is_withheld, with_slash};
-ghost use Rattle.edit_lookups.specs.CachePaths.{cached_path, validator_path};
+ghost use Rattle.edit_fetch.specs.Plans.{AreEffectiveRequests, AreRequests, IsCachedEtag, IsRequest, fetched_url, is_requested, is_sparse_registry, is_withheld, request_count, with_slash};
+ghost use Rattle.edit_lookups.specs.CachePaths.{cached_path};
 ghost use Rattle.edit_lookups.specs.Lookups.{lookup_text};
 ghost use Rattle.edit_sources.specs.ConfigurationFiles.{HasFailed};
 ghost use Rattle.edit_store.specs.Store.{OnlyReads};
@@ -11,7 +12,7 @@ use crate::plan::FetchPlan;
 use crate::tokens::token_of;
 use crate::transfers::Request;
 use edit_base::CargoResult;
-use edit_lookups::{Lookup, cached_path, usable_etag, validator_path};
+use edit_lookups::{Lookup, cached_etag, cached_path};
 use edit_store::Store;
 use std::alloc::{AllocError, Global};
 
@@ -59,33 +60,26 @@ fn fetched_url(alloc: Global, lookup: &Lookup<'_>) -> Result<Vec<u8>, AllocError
     Ok(url)
 }
 
-/// The ETag of a validator, if the validator belongs to the bytes of the entry.
-fn etag_of(alloc: Global, body: &[u8], line: &[u8]) -> Result<Option<String>, AllocError>
-    ensures { IfOk result (λ e. IsCachedEtag (Some body.now) (Some line.now) (option_map string_bytes e)) }
+/// The ETag in the text of a cached entry.
+fn etag_in(alloc: Global, text: &[u8]) -> Result<Option<String>, AllocError>
+    ensures { IfOk result (λ e. IsCachedEtag (Some text.now) (option_map string_bytes e)) }
 {
-    match usable_etag(alloc, body, line)? {
+    match cached_etag(text) {
         Some(etag) => Ok(Some(String::from_str(alloc, etag)?)),
         None => Ok(None),
     }
 }
 
-/// The ETag of a cached entry, if the entry has a validator that belongs to it.
-fn cached_etag<S: Store>(alloc: Global, store: &mut S, entry: &str) -> CargoResult<Option<String>>
+/// The ETag of a cached entry; `None` where the entry is not in the cache.
+fn etag_at<S: Store>(alloc: Global, store: &mut S, entry: &str) -> CargoResult<Option<String>>
     ensures store { OnlyReads (S.view store.old) (S.view store.new) }
     ensures etag { IfOk result (λ e. (S.view store.old).tells ≡ true
-        → IsCachedEtag ((S.view store.old).file_at entry.now)
-        ((S.view store.old).file_at (validator_path entry.now)) (option_map string_bytes e)) }
+        → IsCachedEtag ((S.view store.old).file_at entry.now) (option_map string_bytes e)) }
     ensures error { IfErr result (λ e. IsMemory e
         ⊎ HasFailed (S.view store.old).faults (S.view store.new).faults e) }
 {
-    let validator = validator_path(alloc, entry)?;
-    let body = match store.read(alloc, entry) {
-        Ok(Some(body)) => body,
-        Ok(None) => return Ok(None),
-        Err(error) => return Err(error),
-    };
-    match store.read(alloc, validator.as_str()) {
-        Ok(Some(line)) => Ok(etag_of(alloc, &body, &line)?),
+    match store.read(alloc, entry) {
+        Ok(Some(text)) => Ok(etag_in(alloc, &text)?),
         Ok(None) => Ok(None),
         Err(error) => Err(error),
     }
@@ -107,7 +101,7 @@ fn request<'a, S: Store>(
 {
     let url = fetched_url(alloc, lookup)?;
     let entry = cached_path(alloc, plan.cache, lookup)?;
-    let etag = match cached_etag(alloc, store, entry.as_str()) {
+    let etag = match etag_at(alloc, store, entry.as_str()) {
         Ok(etag) => etag,
         Err(error) => return Err(error),
     };
@@ -164,4 +158,24 @@ pub(crate) fn effective_requests<'a, S: Store>(
         return Ok(Vec::new(alloc));
     }
     requests(alloc, store, plan, lookups)
+}
+
+/// The number of lookups of registries of which entries are requested.
+fn count_requested(plan: &FetchPlan<'_>, lookups: &[Lookup<'_>]) -> usize
+    ensures { result ≡ count_by (λ l. is_requested plan.now l.address.now) lookups.now }
+{
+    lookups
+        .iter()
+        .filter(|lookup| is_requested(plan, lookup.address))
+        .count()
+}
+
+/// The number of the requests for lookups; 0 offline.
+pub(crate) fn request_count(plan: &FetchPlan<'_>, lookups: &[Lookup<'_>]) -> usize
+    ensures { result ≡ request_count plan.now (map lookup_text lookups.now) }
+{
+    if plan.settings.offline {
+        return 0;
+    }
+    count_requested(plan, lookups)
 }

@@ -98,11 +98,11 @@ fn two_registries(rt: HostRuntime) -> Result<(), Fail> {
     };
     let outcomes = [
         Outcome::Cached(Failure::Curl("6", "no\u{1b} host")),
-        Outcome::Missing(Failure::BadLine(2)),
-        Outcome::Cached(Failure::Status("500")),
         Outcome::Missing(Failure::NoFolder),
+        Outcome::Cached(Failure::Status("500")),
+        Outcome::Missing(Failure::Unanswered),
     ];
-    let report = report_of(rt.alloc(), &PLACES, &LOOKUPS, &outcomes, &options)?;
+    let report = report_of(rt.alloc(), &LOOKUPS, &outcomes, &options)?;
     assert_eq!(rt;
         report.warnings.as_str(),
         "warning: 2 index entries of sparse+https://h.example/ could not be fetched \
@@ -113,7 +113,7 @@ fn two_registries(rt: HostRuntime) -> Result<(), Fail> {
         error.as_str(),
         "index entries could not be fetched, and are not in the cache; \
 leave the crates out by `--exclude`, or as they are by `--offline`:\n  \
-file:///idx: serde (invalid index line 2 of /idx/se/rd/serde)"
+file:///idx: serde (there is no such folder)"
     );
     Ok(())
 }

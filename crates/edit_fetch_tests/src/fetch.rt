@@ -10,6 +10,7 @@ use edit_fetch::{
 };
 use edit_sources::config::read_configs;
 use edit_store::{MemoryStore, Store};
+use std::str;
 use std::test::Fail;
 
 /// Lookups in two registries.
@@ -57,6 +58,36 @@ fn plans_only_sparse_lookups(rt: HostRuntime) -> Result<(), Fail> {
     assert_eq!(rt; count, Some(1));
     let config = fetch_config(rt.alloc(), &mut store, &plan, LOOKUPS)?.ok_or("malformed")?;
     assert_eq!(rt; config.as_slice(), CONFIG);
+    Ok(())
+}
+
+/// The path of the cached entry of `serde`.
+const SERDE: &str = "/cache/sparse+https:%2F%2Findex.example%2F/se/rd/serde";
+
+#[test]
+fn sends_the_etag_of_a_cached_entry(rt: HostRuntime) -> Result<(), Fail> {
+    let settings = NetSettings {
+        offline: false,
+        retry: 3,
+        timeout: 30,
+        proxy: None,
+        cainfo: None,
+    };
+    let plan = FetchPlan {
+        cache: "/cache",
+        room: "/room",
+        settings: &settings,
+        tokens: &[],
+        withheld: &[],
+    };
+    let mut store = MemoryStore::new(rt.alloc());
+    store.write(rt.alloc(), SERDE, b"ETag: W/\"1\"\n{}\n")?;
+    let config = fetch_config(rt.alloc(), &mut store, &plan, LOOKUPS)?.ok_or("malformed")?;
+    let text = str::from_utf8(&config).expect(&rt, "UTF-8");
+    assert!(rt;
+        text.contains("header = \"If-None-Match: W/\\\"1\\\"\"\n"),
+        "{text}"
+    );
     Ok(())
 }
 

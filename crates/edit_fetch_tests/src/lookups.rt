@@ -1,20 +1,22 @@
 //! Tests of lookups, their files in the cache, and texts of messages.
 use edit_lookups::{
-    Lookup, cached_path, push_escaped, read_lookups, strip_userinfo, usable_etag, validator_line,
-    validator_path,
+    Lookup, cached_body, cached_etag, cached_path, cached_text, push_escaped, read_lookups,
+    strip_userinfo,
 };
 use std::test::Fail;
 
-/// The SHA-256 of `abc` (FIPS 180-4, example "abc").
-const ABC: &str = "ba7816bf8f01cfea414140de5dae2223b00361a396177a9cb410ff61f20015ad";
-
 #[test]
-fn validator_of_body(rt: HostRuntime) -> Result<(), Fail> {
-    let line = validator_line(rt.alloc(), b"abc", "W/\"x y\"")?;
-    let wanted = format!(in rt.alloc(); "{ABC} W/\"x y\"\n")?;
-    assert_eq!(rt; line.as_slice(), wanted.as_bytes());
-    assert_eq!(rt; usable_etag(rt.alloc(), b"abc", &line)?, Some("W/\"x y\""));
-    assert_eq!(rt; usable_etag(rt.alloc(), b"abd", &line)?, None);
+fn etag_and_body(rt: HostRuntime) -> Result<(), Fail> {
+    let text = cached_text(rt.alloc(), "W/\"x y\"", b"abc\n")?;
+    assert_eq!(rt; text.as_slice(), b"ETag: W/\"x y\"\nabc\n".as_slice());
+    assert_eq!(rt; cached_etag(&text), Some("W/\"x y\""));
+    assert_eq!(rt; cached_body(&text), b"abc\n".as_slice());
+    let moved = cached_text(rt.alloc(), "", b"abc\n")?;
+    assert_eq!(rt; cached_etag(&moved), None);
+    assert_eq!(rt; cached_body(&moved), b"abc\n".as_slice());
+    // a file of an older version of this program
+    assert_eq!(rt; cached_etag(b"abc\n"), None);
+    assert_eq!(rt; cached_body(b"abc\n"), b"abc\n".as_slice());
     Ok(())
 }
 
@@ -43,11 +45,6 @@ fn paths_in_cache(rt: HostRuntime) -> Result<(), Fail> {
     assert_eq!(rt;
         entry.as_str(),
         "/cache/sparse+https:%2F%2Fhost.example%2Fa%2520b%2F/se/rd/serde"
-    );
-    let validator = validator_path(rt.alloc(), entry.as_str())?;
-    assert_eq!(rt;
-        validator.as_str(),
-        "/cache/sparse+https:%2F%2Fhost.example%2Fa%2520b%2F/se/rd/serde.etag"
     );
     Ok(())
 }

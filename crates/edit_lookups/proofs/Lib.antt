@@ -1,5 +1,5 @@
+pub mod CachedLemmas
 pub mod CutLemmas
-pub mod EtagLemmas
 pub mod LineLemmas
 pub mod ShownLemmas
 pub mod UserinfoLemmas

@@ -1,5 +1,5 @@
--- The paths of index entries and their validators in the cache.
-use Rattle.std.specs.Prelude.{ℕ, List, ◌∷◌, ◌++◌, codes}
+-- The paths of index entries in the cache.
+use Rattle.std.specs.Prelude.{ℕ, List, ◌∷◌, ◌++◌}
 use Rattle.edit_sources.specs.Folders.{registry_folder}
 use Rattle.edit_lookups.specs.Lookups.{LookupText}
 use Rattle.edit_lookups.specs.UserinfoAddresses.{strip_userinfo}
@@ -7,7 +7,3 @@ use Rattle.edit_lookups.specs.UserinfoAddresses.{strip_userinfo}
 -- the path of an entry: in the folder of its registry's address without userinfo
 abbrev pub cached_path : List ℕ → LookupText → List ℕ
 cached_path cache l = cache ++ 47 ∷ (registry_folder (strip_userinfo l.address) ++ 47 ∷ l.path)
-
--- the path of an entry's validator
-abbrev pub validator_path : List ℕ → List ℕ
-validator_path entry = entry ++ codes ".etag"

@@ -1,5 +1,5 @@
 pub mod CachePaths
+pub mod CachedTexts
 pub mod ControlEscapes
 pub mod Lookups
 pub mod UserinfoAddresses
-pub mod Validators

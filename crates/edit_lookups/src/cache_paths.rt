@@ -1,7 +1,7 @@
 //! The paths of index entries in the cache.
 ghost use Rattle.std.specs.Prelude.{◌≡◌, IfOk, string_bytes};
 ghost use Rattle.edit_sources.specs.Folders.{registry_folder};
-ghost use Rattle.edit_lookups.specs.CachePaths.{cached_path, validator_path};
+ghost use Rattle.edit_lookups.specs.CachePaths.{cached_path};
 ghost use Rattle.edit_lookups.specs.Lookups.{lookup_text};
 ghost use Rattle.edit_lookups.specs.UserinfoAddresses.{strip_userinfo};
 
@@ -35,11 +35,4 @@ pub fn cached_path(alloc: Global, cache: &str, lookup: &Lookup) -> Result<String
     let folder = cached_folder(alloc, lookup.address)?;
     let path = lookup.path;
     format!(in alloc; "{cache}/{folder}/{path}")
-}
-
-/// The path of the validator of a cached entry, beside the entry.
-pub fn validator_path(alloc: Global, entry: &str) -> Result<String, AllocError>
-    ensures { IfOk result (λ s. string_bytes s ≡ validator_path entry.now) }
-{
-    format!(in alloc; "{entry}.etag")
 }

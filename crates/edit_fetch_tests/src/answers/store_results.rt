@@ -1,4 +1,4 @@
-//! Tests of which answers are stored, and of what an upgrade reads of them.
+//! Tests of which answers are stored, and of the list of the entries that an upgrade reads.
 use super::PLACES;
 use edit_answers::{Report, StoreOptions, store_answers};
 use edit_store::{FaultStore, MemoryStore, Store};
@@ -13,13 +13,27 @@ const OPTIONS: StoreOptions<'static> = StoreOptions {
 /// The path of the cached entry of `serde`.
 const SERDE: &str = "/c/sparse+https:%2F%2Fh.example%2F/se/rd/serde";
 
-/// The path at which the upgrade reads the entry.
-const INDEXED: &str = "/c/.run.1/index/sparse+https:%2F%2Fu:p@h.example%2F/se/rd/serde";
+/// The path of the list of the available entries.
+const LIST: &str = "/c/.run.1/index";
 
-const OLD: &[u8] = b"{\"name\":\"serde\",\"vers\":\"1.0.0\"}\n";
+/// The list with the cached entry of `serde` alone.
+const LISTED: &[u8] = b"cached\tsparse+https:%2F%2Fu:p@h.example%2F/se/rd/serde\t\
+/c/sparse+https:%2F%2Fh.example%2F/se/rd/serde\0";
 
+/// A cached entry of an older run.
+const OLD: &[u8] = b"ETag: W/\"1\"\n{\"name\":\"serde\",\"vers\":\"1.0.0\"}\n";
+
+/// A new body.
 const NEW: &[u8] =
     b"{\"name\":\"serde\",\"vers\":\"1.0.0\"}\n{\"name\":\"serde\",\"vers\":\"1.1.0\",\"yanked\":false}\n";
+
+/// The entry with the new body and the ETag of its response.
+const STORED: &[u8] =
+    b"ETag: W/\"2\"\n{\"name\":\"serde\",\"vers\":\"1.0.0\"}\n{\"name\":\"serde\",\"vers\":\"1.1.0\",\"yanked\":false}\n";
+
+/// The entry with the new body after a redirect.
+const MOVED: &[u8] =
+    b"ETag: \n{\"name\":\"serde\",\"vers\":\"1.0.0\"}\n{\"name\":\"serde\",\"vers\":\"1.1.0\",\"yanked\":false}\n";
 
 fn put(alloc: Global, store: &mut MemoryStore, path: &str, bytes: &[u8]) -> Result<(), Fail> {
     store.write(alloc, path, bytes)?;
@@ -47,14 +61,17 @@ fn entry(alloc: Global, store: &mut MemoryStore) -> Result<Vec<u8>, Fail> {
     Ok(store.read(alloc, SERDE)?.ok_or("no entry")?)
 }
 
+fn list(alloc: Global, store: &mut MemoryStore) -> Result<Vec<u8>, Fail> {
+    Ok(store.read(alloc, LIST)?.ok_or("no list")?)
+}
+
 #[test]
 fn a_new_body(rt: HostRuntime) -> Result<(), Fail> {
     let (mut store, report) = run_with(rt.alloc(), b"1\t200\t0\t0\t\n", NEW)?;
     assert!(rt; report.error.is_none());
     assert!(rt; report.warnings.is_empty());
-    assert_eq!(rt; entry(rt.alloc(), &mut store)?.as_slice(), NEW);
-    let indexed = store.read(rt.alloc(), INDEXED)?.ok_or("not indexed")?;
-    assert_eq!(rt; indexed.as_slice(), NEW);
+    assert_eq!(rt; entry(rt.alloc(), &mut store)?.as_slice(), STORED);
+    assert_eq!(rt; list(rt.alloc(), &mut store)?.as_slice(), LISTED);
     Ok(())
 }
 
@@ -62,8 +79,8 @@ fn a_new_body(rt: HostRuntime) -> Result<(), Fail> {
 fn is_old_entry_used(alloc: Global, answer: &[u8], body: &[u8]) -> Result<bool, Fail> {
     let (mut store, report) = run_with(alloc, answer, body)?;
     let keeps = entry(alloc, &mut store)?.as_slice() == OLD;
-    let serves = store.read(alloc, INDEXED)?.is_some();
-    Ok(keeps && serves && report.error.is_none() && !report.warnings.is_empty())
+    let is_listed = list(alloc, &mut store)?.as_slice() == LISTED;
+    Ok(keeps && is_listed && report.error.is_none() && !report.warnings.is_empty())
 }
 
 #[test]
@@ -108,63 +125,43 @@ fn answers_without_an_entry(rt: HostRuntime) -> Result<(), Fail> {
     Ok(())
 }
 
-/// Runs one lookup without an outcome, over a cache with this entry.
-fn report_without_answer(
-    alloc: Global,
-    cached: &[u8],
-    options: &StoreOptions<'_>,
-) -> Result<Report, Fail> {
-    let (mut store, _report) = run_with(alloc, b"1\t403\t0\t0\t\n", b"")?;
-    put(alloc, &mut store, SERDE, cached)?;
-    put(alloc, &mut store, INDEXED, b"")?;
-    let report = store_answers(alloc, &mut store, &PLACES, options)?;
-    // (a damaged entry stays in the cache and is not linked to where the upgrade reads it)
-    let indexed = store.read(alloc, INDEXED)?.ok_or("not indexed")?;
-    if !indexed.is_empty() || entry(alloc, &mut store)?.as_slice() != cached {
-        return Err(Fail::from("the entry is used"));
-    }
-    Ok(report)
-}
-
 #[test]
-fn a_damaged_entry(rt: HostRuntime) -> Result<(), Fail> {
-    let offline = StoreOptions {
-        offline: true,
-        excluded: &[],
-    };
-    let report = report_without_answer(rt.alloc(), b"\nnothing\n", &offline)?;
+fn a_redirected_body(rt: HostRuntime) -> Result<(), Fail> {
+    let (mut store, report) = run_with(rt.alloc(), b"1\t200\t0\t1\t\n", NEW)?;
     assert!(rt; report.error.is_none());
-    assert_eq!(rt;
-        report.warnings.as_str(),
-        "warning: the cached index entry /c/sparse+https:%2F%2Fh.example%2F/se/rd/serde:2 is no index line, so the file is not used: remove it
-warning: no index entries of sparse+https://h.example/ are cached for serde (nothing is fetched offline): these crates stay as they are
-"
-    );
-    let report = report_without_answer(
-        rt.alloc(),
-        b"{\"name\":\"serde\",\"vers\":\"1.0.0\"}",
-        &OPTIONS,
-    )?;
-    assert!(rt; report.error.is_some());
-    assert_eq!(rt;
-        report.warnings.as_str(),
-        "warning: the cached index entry /c/sparse+https:%2F%2Fh.example%2F/se/rd/serde is not whole, so the file is not used: remove it\n"
-    );
+    assert_eq!(rt; entry(rt.alloc(), &mut store)?.as_slice(), MOVED);
+    assert_eq!(rt; list(rt.alloc(), &mut store)?.as_slice(), LISTED);
     Ok(())
 }
 
-/// The path of the validator of that entry.
-const VALIDATOR: &str = "/c/sparse+https:%2F%2Fh.example%2F/se/rd/serde.etag";
+#[test]
+fn an_unmodified_entry(rt: HostRuntime) -> Result<(), Fail> {
+    let (mut store, report) = run_with(rt.alloc(), b"1\t304\t0\t0\t\n", b"")?;
+    assert!(rt; report.error.is_none());
+    assert!(rt; report.warnings.is_empty());
+    assert_eq!(rt; entry(rt.alloc(), &mut store)?.as_slice(), OLD);
+    assert_eq!(rt; list(rt.alloc(), &mut store)?.as_slice(), LISTED);
+    Ok(())
+}
 
 #[test]
-fn a_redirected_body(rt: HostRuntime) -> Result<(), Fail> {
-    let (mut store, report) = run_with(rt.alloc(), b"1\t200\t0\t0\t\n", NEW)?;
+fn a_local_entry(rt: HostRuntime) -> Result<(), Fail> {
+    let alloc = rt.alloc();
+    let mut store = MemoryStore::new(alloc);
+    put(
+        alloc,
+        &mut store,
+        "/c/.run.1/lookups",
+        b"file:///idx\tserde\tse/rd/serde\nfile:///idx\tlog\t3/l/log\n",
+    )?;
+    put(alloc, &mut store, "/idx/se/rd/serde", b"not read")?;
+    let report = store_answers(alloc, &mut store, &PLACES, &OPTIONS)?;
     assert!(rt; report.error.is_none());
-    assert!(rt; store.read(rt.alloc(), VALIDATOR)?.is_some());
-    let (mut store, report) = run_with(rt.alloc(), b"1\t200\t0\t1\t\n", NEW)?;
-    assert!(rt; report.error.is_none());
-    assert_eq!(rt; entry(rt.alloc(), &mut store)?.as_slice(), NEW);
-    assert!(rt; store.read(rt.alloc(), VALIDATOR)?.is_none());
+    assert!(rt; report.warnings.is_empty());
+    assert_eq!(rt;
+        list(alloc, &mut store)?.as_slice(),
+        b"local\tfile:%2F%2F%2Fidx/se/rd/serde\t/idx/se/rd/serde\0".as_slice()
+    );
     Ok(())
 }
 
@@ -199,7 +196,7 @@ fn a_crate_that_is_not_there(rt: HostRuntime) -> Result<(), Fail> {
     assert!(rt; report.error.is_none());
     assert!(rt; report.warnings.is_empty());
     assert_eq!(rt; entry(rt.alloc(), &mut store)?.as_slice(), OLD);
-    assert!(rt; store.read(rt.alloc(), INDEXED)?.is_none());
+    assert!(rt; list(rt.alloc(), &mut store)?.is_empty());
     Ok(())
 }
 
@@ -213,8 +210,8 @@ fn a_failed_write(rt: HostRuntime) -> Result<(), Fail> {
         b"1\t200\t0\t0\t\n",
     )?;
     put(rt.alloc(), &mut store, "/c/other", OLD)?;
-    // the earlier calls read the lookups, the outcomes and the body
-    let mut store = FaultStore::new(store, 3, 5);
+    // the earlier calls read the lookups, the outcomes, the body and its ETag
+    let mut store = FaultStore::new(store, 4, 5);
     let result = store_answers(rt.alloc(), &mut store, &PLACES, &OPTIONS);
     assert!(rt; result.is_err());
     let other = store.read(rt.alloc(), "/c/other")?.ok_or("no other entry")?;

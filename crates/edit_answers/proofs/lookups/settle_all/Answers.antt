@@ -27,12 +27,12 @@ loop-i-preserved g c =
           c.push.new.self.items c.in-Ok.outcome _ _ _ _ c.in_ok-push-in-Ok.ensures.items
           (lookup-at lookup_text c.args.lookups.now _ c.loop-i.i _ c.loop-i.invariant.0 within)
           c.loop-i.invariant.1 c.in-Ok.ensures.changes,
-      λ t. follows-more c.args.places.now
-          (map lookup_text c.args.lookups.now) c.args.offline c.args.answers.now
-          c.loop-i.outcomes.items c.push.new.self.items c.in-Ok.outcome _ _ _ c.loop-i.i _
+      λ t. follows-more c.args.places.now (map lookup_text c.args.lookups.now) c.args.offline c.args.answers.now
+          _ _ _ c.loop-i.outcomes.items c.push.new.self.items c.in-Ok.outcome _ c.loop-i.i _
           c.loop-i.invariant.0
           c.answer_at-answer.ensures c.in_ok-push-in-Ok.ensures.items
           (lookup-at lookup_text c.args.lookups.now _ c.loop-i.i _ c.loop-i.invariant.0 within)
           (c.loop-i.invariant.1.done t) (c.in-Ok.ensures.follows (c.loop-i.invariant.1.tells ∙ t))
-          (c.loop-i.invariant.2 t),
+          (c.in-Ok.ensures.stores (c.loop-i.invariant.1.tells ∙ t))
+          (c.in-Ok.ensures.changes.done (c.loop-i.invariant.1.tells ∙ t)) (c.loop-i.invariant.2 t),
     )

@@ -14,4 +14,4 @@ invariant-loop-i g l =
     (g.S.Store.view l.fn.files) (g.S.Store.view l.files) (Ok l.outcomes.items)
     × ((g.S.Store.view l.fn.files).tells ≡ true → AllFollow l.places
     (map lookup_text l.lookups) l.offline l.answers
-    (g.S.Store.view l.fn.files).file_at l.outcomes.items)
+    (g.S.Store.view l.fn.files).file_at (g.S.Store.view l.files).file_at l.outcomes.items)

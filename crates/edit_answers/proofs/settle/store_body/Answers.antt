@@ -1,76 +1,47 @@
-use Rattle.std.proofs.Common.{◌≡◌, Some, refl, inl, ap, ◌∙◌, sym, subst}
+use Rattle.std.proofs.Common.{◌≡◌, Some, sym, ◌∙◌, ap, subst}
 use Rattle.edit_lookups.specs.Lookups.{lookup_text}
-use Rattle.edit_answers.specs.Outcomes.{Puts, PutsIndexed, by_cached, stored_outcome}
-use Rattle.edit_answers.specs.Outcomes.Puts.{entry}
-use Rattle.edit_answers.specs.declared.meaning.Failure.TheVariants.{Unanswered}
-use Rattle.edit_answers.specs.declared.meaning.Outcome.{Outcome}
+use Rattle.edit_answers.specs.Changes.{AllowsChanges}
+use Rattle.edit_answers.specs.Etags.{IsEntryText}
+use Rattle.edit_answers.specs.Outcomes.{Puts, stored_outcome}
 use Rattle.edit_answers.specs.declared.meaning.Outcome.TheVariants.{Fetched}
-use Rattle.edit_answers.proofs.ChangeLemmas.{as-err, as-ok, keeps-write, then, weakened, write-changes}
-use Rattle.edit_answers.proofs.PutLemmas.{direct-puts, indexed-puts, is-stored, validator-puts}
+use Rattle.edit_answers.proofs.ChangeLemmas.{after-reads, keeps-write}
+use Rattle.edit_answers.proofs.PutLemmas.{entry-puts}
 use Rattle.edit_answers.proofs.settle.store_body.Goals as goal
 
-pub returns-in-Err-link_cached-clause-changes : goal.returns-in-Err-link_cached-clause-changes
-returns-in-Err-link_cached-clause-changes g c =
+pub returns-in-Ok-write-clause-changes : goal.returns-in-Ok-write-clause-changes
+returns-in-Ok-write-clause-changes g c =
     let p = c.args.places.now in
     let l = lookup_text c.args.lookup.now in
-    let may = Puts p l Fetched in
-    let path = c.as_str.ensures.value ∙ c.in_ok-entry.ensures in
-    let first = write-changes (λ _. may) may _ _ _ _ c.args.body.now _ c.in-Ok.ensures.tells
-    c.in-Ok.ensures.written
-    c.in-Ok.ensures.others c.in-Ok.ensures.cause
-    (λ t is v. keeps-write may _ _ _ _ c.in-Ok.ensures.others is
-    (subst (λ q. may q c.args.body.now) (sym path) (entry c.args.body.now (inl refl) c.requires))) in
-    as-err {T = Outcome} (λ _. may) (Puts p l) may may _ _ _ (λ _ _ h. h)
-    (then may _ _ _ _ _ first
-    (as-err _ (λ _. may) (PutsIndexed p l) may _ _ _
-    (indexed-puts p l Fetched) c.in-Err-link_cached.ensures.changes))
+    let reads = c.entry_text.ensures.reads in
+    after-reads (Puts p l) (Puts p l Fetched) _ _ _ _ reads
+    (record {
+      tells = c.write.ensures.tells;
+      later = c.write.ensures.cause.later;
+      done = λ t. subst (λ o. AllowsChanges (Puts p l o) (g.S.Store.view c.entry_text.new.files).file_at
+          (g.S.Store.view c.write.new.self).file_at) (sym c.stored_outcome.ensures)
+          (keeps-write (Puts p l (stored_outcome c.args.is_direct)) _ _ c.as_str-2.result.now c.deref.result.now
+          c.write.ensures.others (c.in-Ok-write.ensures.written t)
+          (entry-puts p l c.args.is_direct _ c.args.body.now _ _ c.in-Ok.text.items c.requires
+          (c.as_str-2.ensures.value ∙ c.in_ok-entry.ensures) c.deref.ensures.value
+          (c.in-Ok.ensures.text (sym reads.tells ∙ t))));
+      torn = tt;
+      error = tt;
+    })
 
-pub returns-in-Ok-store_direct-clause-changes :
-    goal.returns-in-Ok-store_direct-clause-changes
-returns-in-Ok-store_direct-clause-changes g c =
-    let p = c.args.places.now in
-    let l = lookup_text c.args.lookup.now in
-    let may = Puts p l (stored_outcome c.args.is_direct) in
-    let path = c.as_str.ensures.value ∙ c.in_ok-entry.ensures in
-    let first = write-changes (λ _. may) may _ _ _ _ c.args.body.now _ c.in-Ok.ensures.tells
-    c.in-Ok.ensures.written
-    c.in-Ok.ensures.others c.in-Ok.ensures.cause
-    (λ t is v. keeps-write may _ _ _ _ c.in-Ok.ensures.others is
-    (subst (λ q. may q c.args.body.now) (sym path)
-    (entry c.args.body.now (is-stored c.args.is_direct) c.requires))) in
-    let second = as-ok (λ _. PutsIndexed p l) (λ _. may)
-    (PutsIndexed p l) may _ _ _ c.in-Ok-link_cached.outcome
-    (λ t. indexed-puts p l (stored_outcome c.args.is_direct)) c.in-Ok-link_cached.ensures.changes in
-    let third = weakened _ (λ _. may) _ may _ _ _
-    (λ t v q bytes. direct-puts p l c.args.is_direct c.args.body.now _ q bytes c.requires
-    (c.as_str-2.ensures.value ∙ c.in_ok-entry.ensures))
-    (λ q bytes. direct-puts p l c.args.is_direct c.args.body.now _ q bytes c.requires
-    (c.as_str-2.ensures.value ∙ c.in_ok-entry.ensures))
-    c.in-Ok-store_direct.ensures in
-    as-ok (λ _. may) (Puts p l) may (Puts p l Fetched) _ _ _ c.in-Ok-link_cached.outcome
-    (λ t q bytes h. subst (λ o. Puts p l o q bytes)
-    (sym (c.in-Ok-link_cached.ensures.outcome (c.write.ensures.tells ∙ t)
-    ∙ (ap (λ o. by_cached o c.stored_outcome.result Unanswered)
-    (subst (λ q. (g.S.Store.view c.write.new.self).file_at q ≡ Some c.args.body.now) path
-    (c.in-Ok.ensures.written t)) ∙ c.stored_outcome.ensures))) h)
-    (then may _ _ _ _ _ first (then may _ _ _ _ _ second third))
-
-pub returns-clause-changes : goal.returns-clause-changes
-returns-clause-changes g c =
-    let p = c.args.places.now in
-    let l = lookup_text c.args.lookup.now in
-    let may = Puts p l Fetched in
-    let path = c.as_str.ensures.value ∙ c.in_ok-entry.ensures in
-    let first = write-changes (λ _. may) may _ _ _ _ c.args.body.now _ c.in-Ok.ensures.tells
-    c.in-Ok.ensures.written
-    c.in-Ok.ensures.others c.in-Ok.ensures.cause
-    (λ t is v. keeps-write may _ _ _ _ c.in-Ok.ensures.others is
-    (subst (λ q. may q c.args.body.now) (sym path) (entry c.args.body.now (inl refl) c.requires))) in
-    let second = as-ok (λ _. PutsIndexed p l) (λ _. may)
-    (PutsIndexed p l) may _ _ _ c.in-Ok-link_cached.outcome
-    (λ t. indexed-puts p l Fetched) c.in-Ok-link_cached.ensures.changes in
-    as-err {T = Outcome} (λ _. may) (Puts p l) may may _ _ _ (λ _ _ h. h)
-    (then may _ _ _ _ _ first (then may _ _ _ _ _ second
-    (as-err _ (λ _. may) _ may _ _ _
-    (λ q bytes h. validator-puts p l c.args.body.now _ q bytes c.requires
-    (c.as_str-2.ensures.value ∙ c.in_ok-entry.ensures) h.1) c.in-Err-store_direct.ensures)))
+pub returns-in-Ok-write-clause-stores : goal.returns-in-Ok-write-clause-stores
+returns-in-Ok-write-clause-stores g c t =
+    let reads = c.entry_text.ensures.reads in
+    let old = (g.S.Store.view c.args.files.now).file_at in
+    let new = (g.S.Store.view c.write.new.self).file_at in
+    let path = c.as_str-2.ensures.value ∙ c.in_ok-entry.ensures in
+    let text = c.in-Ok.text.items in (
+      c.stored_outcome.ensures,
+      record {
+        text = text;
+        is = subst (λ q. IsEntryText c.args.is_direct (old q) c.args.body.now text)
+            (c.as_str.ensures.value ∙ c.in_ok-etag_path.ensures) (c.in-Ok.ensures.text t);
+        stored = subst (λ q. new q ≡ Some text) path
+            (c.in-Ok-write.ensures.written (reads.tells ∙ t) ∙ ap Some c.deref.ensures.value);
+        others = λ q n. c.write.ensures.others q (λ e. n (e ∙ path)) ∙ reads.files q;
+      },
+    )

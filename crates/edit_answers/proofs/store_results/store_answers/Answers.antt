@@ -1,8 +1,7 @@
 use Rattle.std.proofs.Common.{◌≡◌, ◌∷◌, ◌++◌, true, map, ◌∙◌, sym, subst}
 use Rattle.std.specs.Prelude.{codes}
 use Rattle.edit_lookups.specs.Lookups.{HasLookupLines, lookup_text}
-use Rattle.edit_answers.specs.Outcomes.{PutsSome}
-use Rattle.edit_answers.specs.StoredResults.{PutsOf, ReportsOn, text_of}
+use Rattle.edit_answers.specs.StoredResults.{PutsOf, PutsRun, ReportsOn, text_of}
 use Rattle.edit_answers.specs.StoredResults.Reports.{malformed, readable}
 use Rattle.edit_answers.specs.declared.messages.Report.{Report}
 use Rattle.edit_answers.proofs.ChangeLemmas.{after-reads, on-ok, only-reads, reads-fails, reads-refused, weakened-known}
@@ -24,9 +23,9 @@ returns-in-Some-clause-changes g c =
     let p = c.args.places.now in
     let files = (g.S.Store.view c.args.files.now).file_at in
     let may = PutsOf p files in
-    let ls = map lookup_text c.deref.result.now in
+    let ls = c.deref.result.now in
     let say : (g.S.Store.view c.args.files.now).tells ≡ true
-    → HasLookupLines (text_of (files (p.room.now ++ 47 ∷ codes "lookups"))) ls
+    → HasLookupLines (text_of (files (p.room.now ++ 47 ∷ codes "lookups"))) (map lookup_text ls)
     = λ t. subst (λ xs. HasLookupLines (text_of (files (p.room.now ++ 47 ∷ codes "lookups")))
     (map lookup_text xs))
     (sym c.deref.ensures.value)
@@ -34,7 +33,7 @@ returns-in-Some-clause-changes g c =
     (c.as_str.ensures.value ∙ c.in-Ok.ensures.text t)
     (rw c.in-Some.is at c.in_ok-lookups.ensures)) in
     after-reads {T = Report} (λ _. may) may _ _ _ _ c.read_from_room.ensures.reads
-    (weakened-known (λ _. PutsSome p ls) (λ _. may) (PutsSome p ls) may _ _ _
+    (weakened-known (λ _. PutsRun p ls) (λ _. may) (PutsRun p ls) may _ _ _
     (λ t v path bytes h. record {
       lookups = ls;
       say = say
@@ -66,14 +65,15 @@ returns-in-Some-clause-report g c =
     let p = c.args.places.now in
     let old = (g.S.Store.view c.args.files.now).file_at in
     let mid = (g.S.Store.view c.read_from_room.new.files).file_at in
+    let new = (g.S.Store.view c.store_lookups.new.files).file_at in
     let reads = c.read_from_room.ensures.reads in
     let ls = c.in-Some.lookups.items in
     on-ok _ _ c.store_lookups.result
     (λ r h t. readable ls (subst (λ text. HasLookupLines text (map lookup_text ls))
     (c.as_str.ensures.value ∙ c.in-Ok.ensures.text t)
     (rw c.in-Some.is at c.in_ok-lookups.ensures))
-    (report-same p c.args.options.now old mid ls r reads.files
-    (subst (λ xs. ReportsOn p c.args.options.now mid xs r) c.deref.ensures.value (h (reads.tells ∙ t)))))
+    (report-same p c.args.options.now old mid new ls r reads.files
+    (subst (λ xs. ReportsOn p c.args.options.now mid new xs r) c.deref.ensures.value (h (reads.tells ∙ t)))))
     c.store_lookups.ensures.report
 
 pub returns-clause-report : goal.returns-clause-report

@@ -1,0 +1,3 @@
+pub mod ListedLemmas
+pub mod RecordLemmas
+pub mod ShownLemmas
