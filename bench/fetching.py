@@ -19,14 +19,13 @@ def text_of(crate):
 
 
 def fill(cache, lookups, found):
-    """Writes the index files of lookups and their validators into a cache; the bytes of the index files."""
+    """Writes the index files of lookups into a cache, each with its ETag in the first line; the bytes of the index files."""
     crates, length = {crate.name: crate for crate in found}, 0
     for address, name, path in lookups:
         text = text_of(crates[name])
         entry = os.path.join(cache, address.replace("%", "%25").replace("/", "%2F"), path)
-        sums = [make(text.encode()).hexdigest() for make in (hashlib.sha256, hashlib.md5)]
-        manifests.write(entry, text)
-        manifests.write(entry + ".etag", f'{sums[0]} "{sums[1]}"\n')
+        etag = hashlib.md5(text.encode()).hexdigest()
+        manifests.write(entry, f'ETag: "{etag}"\n{text}')
         length += len(text)
     return length
 
@@ -67,8 +66,6 @@ def fetching(step):
                   os.path.join(own, "lookups"): "".join("\t".join(one) + "\n" for one in lookups)}
         arguments = [step, "--cache", cache, "--room", own, "--", "--metadata-json", made.metadata]
         job = Job(made.folder, {"program": arguments}, before)
-        # (the upgrade's own index is made by each run of `fetch-store`)
-        job.restore = lambda: (shutil.rmtree(os.path.join(own, "index"), ignore_errors=True), Job.restore(job))
         result = Result(f"{len(lookups)} crates, {size_text(length)}", room.costs(job), job)
         counted = room.instructions("program", job)
         result.figure, result.note = counted and counted / 1e6, system_calls(room, job)

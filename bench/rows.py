@@ -8,6 +8,7 @@ from fetching import fetching
 from jobs import (OWN_MEMORY, SET_VERSION, blank_lines, collisions, long_manifest, long_text, memory,
                   real_lines, share, short_lines, start, whole_upgrade, writing)
 from measure import DISK, TMPFS
+from warm import warm_run
 
 
 @dataclass
@@ -41,6 +42,8 @@ ROWS = [
     Row("fetch-plan", "before curl, all cached", fetching("fetch-plan"), (30, 300, 100, 300), (3, 40, 2, 6), 75, "M"),
     Row("fetch-store", "after curl, all answered with 304", fetching("fetch-store"), (30, 300, 100, 300), (3, 40, 2, 6),
         75, "M"),
+    Row("run-warm", "`cargo upgrade -n -i` on line, all cached, less the time of curl", warm_run, (30, 300, 100, 300),
+        (3, 40, 2, 6), 1.2, "off line"),
     Row("short-10000", "`upgrade`, strings, a short line each", short_lines("string"), 10_000, 50, 1.0),
     Row("inline-10000", "`upgrade`, inline tables, a short line each", short_lines("inline"), 10_000, 50),
     Row("blank-10", "`upgrade`, blank index lines", blank_lines, 10_000_000, 10_000),
