@@ -1,6 +1,7 @@
 pub mod AddressLemmas
 pub mod ChainLemmas
 pub mod ConfigurationLemmas
+pub mod DatedLemmas
 pub mod DefinitionLemmas
 pub mod FileLemmas
 pub mod FolderLemmas

@@ -51,7 +51,8 @@ read_entry line (Some d) reads utf8 is =
     let found = value_entry d is in
     (found.0, record { value = d; utf8 = utf8; reads = reads; says = found.1 })
 
-line_entry : (line : List ℕ) → is_index_line line ≡ true → (e : IndexEntry) × IsIndexLine line e
+-- a valid line has an entry
+pub line_entry : (line : List ℕ) → is_index_line line ≡ true → (e : IndexEntry) × IsIndexLine line e
 line_entry line is =
     let parts = and_parts (is_utf8 line) (option_map_or has_entry (read line) false) is in
     read_entry line (read line) refl (IsUtf8-from_is_utf8 line parts.0) parts.1

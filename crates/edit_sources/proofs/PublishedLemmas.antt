@@ -10,7 +10,7 @@ use Rattle.std.proofs.lemmas.Str.{is_utf8-from_IsUtf8, IsUtf8-from_is_utf8}
 use Rattle.serde_json.specs.Data.{Data}
 use Rattle.serde_json.specs.Read.{read}
 use Rattle.edit_sources.specs.IndexLines.{lines_of, lines_left}
-use Rattle.edit_sources.specs.Published.{has_entry, is_by, is_withheld, line_end, publish_time, published_line, published_text}
+use Rattle.edit_sources.specs.Published.{has_entry, is_by, is_withheld, publish_time, published_line, published_text}
 use Rattle.edit_sources.specs.declared.published.PublishedBefore.{PublishedBefore}
 
 -- ---- one line
@@ -60,36 +60,6 @@ onto_some c false (l ∷ ls) = record { first = c ∷ l; others = ls; whole = re
 some_lines : (text : List ℕ) → IsSomeLines (lines_of text)
 some_lines [] = record { first = []; others = []; whole = refl }
 some_lines (c ∷ cs) = onto_some c (is_feed c) (lines_of cs)
-
--- a line before others is joined to them by a line feed
-join_more : (f : List ℕ → List ℕ) (line text : List ℕ)
-    → join_with_byte 10 (line ∷ map f (lines_of text))
-    ≡ line ++ 10 ∷ join_with_byte 10 (map f (lines_of text))
-join_more f line text =
-    let some = some_lines text in
-    ap (λ ls. join_with_byte 10 (line ∷ map f ls)) some.whole
-    ∙ sym (ap (λ ls. line ++ 10 ∷ join_with_byte 10 (map f ls)) some.whole)
-
--- the text of the rest of a file
-abbrev pub rest_text : PublishedBefore → Option (Bor (List ℕ)) → List ℕ
-rest_text bound rest = option_map_or (λ text. published_text bound text.now) rest []
-
--- the first line of a text, and the rest
-pub published_text-line : (bound : PublishedBefore) (front text line : List ℕ)
-    (after : Option (Bor (List ℕ)))
-    → lines_of text ≡ line ∷ lines_left after
-    → front ++ published_text bound text
-    ≡ (front ++ published_line bound line ++ line_end (is_some after)) ++ rest_text bound after
-published_text-line bound front text line None split =
-    ap (λ ls. front ++ join_with_byte 10 (map (published_line bound) ls)) split
-    ∙ sym (append-nil (front ++ published_line bound line ++ [])
-    ∙ append-nil (front ++ published_line bound line))
-published_text-line bound front text line (Some rest) split =
-    let mine = published_line bound line in
-    let others = published_text bound rest.now in
-    ap (λ ls. front ++ join_with_byte 10 (map (published_line bound) ls)) split
-    ∙ ap (λ t. front ++ t) (join_more (published_line bound) mine rest.now)
-    ∙ sym (append_assoc (front ++ mine) (10 ∷ []) others ∙ append_assoc front mine (10 ∷ others))
 
 -- ---- joined lines are split into the same lines
 

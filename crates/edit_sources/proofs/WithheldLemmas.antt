@@ -104,41 +104,7 @@ of_crate-more bound name line before after lines rest split added =
     ∙ more_lines bound before line (is_of_crate name line) (filter (is_of_crate name) rest)
     ∙ sym (ap (λ w. joined w (of_crate bound rest name)) added)
 
--- ---- what a value adds to each crate
-
-added_here : (old : Option Withheld) (version : Withheld)
-    → Some (either (unwrap_or old nothing) version) ≡ joined old (Some version)
-added_here None version = refl
-added_here (Some before) version = refl
-
-added_at : (old : List ℕ → Option Withheld) (own name : List ℕ) (version : Withheld) (b : Bool)
-    → bytes_eq own name ≡ b
-    → (if b then Some (either (unwrap_or (old own) nothing) version) else old name)
-    ≡ joined (old name) (if b then Some version else None)
-added_at old own name version true is =
-    ap (λ n. Some (either (unwrap_or (old n) nothing) version)) ((bytes_eq-Decides own name).0 is)
-    ∙ added_here (old name) version
-added_at old own name version false is = sym (joined-none (old name))
-
--- the value of a crate's version
-pub value_of_crate-some : (bound : PublishedBefore) (d : Data) (own name : List ℕ)
-    (old : List ℕ → Option Withheld) (new : Option Withheld) (version : Withheld)
-    → value_name d ≡ Some own → version ≡ of_value bound d
-    → new ≡ (if bytes_eq own name then Some (either (unwrap_or (old own) nothing) version) else old name)
-    → new ≡ joined (old name) (value_of_crate bound name d)
-value_of_crate-some bound d own name old new version named is updated =
-    updated ∙ added_at old own name version (bytes_eq own name) refl
-    ∙ ap (λ w. joined (old name) (if bytes_eq own name then Some w else None)) is
-    ∙ sym (ap (λ o. joined (old name)
-    (if option_map_or (λ n. bytes_eq n name) o false then Some (of_value bound d) else None)) named)
-
--- a value without the members of an entry
-pub value_of_crate-none : (bound : PublishedBefore) (d : Data) (name : List ℕ) (old : Option Withheld)
-    → value_name d ≡ None → old ≡ joined old (value_of_crate bound name d)
-value_of_crate-none bound d name old none =
-    sym (ap (λ own. joined old
-    (if option_map_or (λ n. bytes_eq n name) own false then Some (of_value bound d) else None)) none
-    ∙ joined-none old)
+-- ---- what a line adds to each crate
 
 -- a line with a value adds what that adds
 pub line_of_crate-value : (bound : PublishedBefore) (name line : List ℕ) (d : Data) → IsUtf8 line
@@ -165,3 +131,19 @@ no_crate bound name line false is none =
 pub line_of_crate-none : (bound : PublishedBefore) (name line : List ℕ) → (IsUtf8 line → read line ≡ None)
     → line_of_crate bound name line ≡ None
 line_of_crate-none bound name line none = no_crate bound name line (is_utf8 line) refl none
+
+added_by : (old new : List ℕ → Option Withheld) (name q : List ℕ) (now version : Withheld) (b : Bool)
+    → bytes_eq name q ≡ b
+    → Some now ≡ joined (old name) (Some version)
+    → (if b then Some now else old q) ≡ joined (old q) (if b then Some version else None)
+added_by old new name q now version true is both =
+    both ∙ ap (λ n. joined (old n) (Some version)) ((bytes_eq-Decides name q).0 is)
+added_by old new name q now version false is both = sym (joined-none (old q))
+
+-- a value that is put at a name, of what the name had and what is added there
+pub added-at : (old new : List ℕ → Option Withheld) (name q : List ℕ) (now version : Withheld)
+    → new q ≡ (if bytes_eq name q then Some now else old q)
+    → Some now ≡ joined (old name) (Some version)
+    → new q ≡ joined (old q) (if bytes_eq name q then Some version else None)
+added-at old new name q now version is both =
+    is ∙ added_by old new name q now version (bytes_eq name q) refl both

@@ -1,5 +1,5 @@
 -- Index lines of versions that were published at or before a bound (Cargo reference, "Registries", pubtime).
-use Rattle.std.specs.Prelude.{ℕ, ℤ, pos, ◌-ℤ◌, ◌*ℤ◌, List, [], ◌∷◌, Option, Some, None, option_and_then, option_map, Bool, false, not, codes, map, int_le, ◌&&◌, if◌then◌else◌}
+use Rattle.std.specs.Prelude.{◌≡◌, ℕ, ℤ, pos, ◌-ℤ◌, ◌*ℤ◌, List, [], Option, Some, None, option_and_then, option_map, Bool, false, not, codes, map, int_le, ◌&&◌, if◌then◌else◌}
 use Rattle.std.specs.List.{join_with_byte}
 use Rattle.std.specs.Option.{is_some, option_map_or}
 use Rattle.std.specs.Result.{result_ok}
@@ -9,7 +9,8 @@ use Rattle.serde_json.specs.Data.{Data}
 use Rattle.serde_json.specs.Read.{read}
 use Rattle.serde_json.specs.Find.{get, as_str}
 use Rattle.edit_store.specs.Store.{Files, StoreView}
-use Rattle.edit_sources.specs.IndexLines.{lines_of, rust_version_of, yanked_of}
+use Rattle.edit_sources.specs.IndexLines.{IsIndexLine, lines_of, rust_version_of, yanked_of}
+use Rattle.edit_version.specs.IndexEntry.{IndexEntry}
 use Rattle.edit_sources.specs.declared.published.PublishedBefore.{PublishedBefore}
 
 -- the nanoseconds from the Unix epoch to the instant of a text, if it has one: that of RFC 3339, section 5.6,
@@ -51,6 +52,11 @@ is_published bound line = option_map_or (λ d. is_by bound (publish_time d)) (re
 abbrev pub is_withheld : PublishedBefore → List ℕ → Bool
 is_withheld bound line = is_index_line line && not (is_published bound line)
 
+-- a valid line of an index, its entry, and the time at which its version was published (own)
+pub record IsDatedLine (line : List ℕ) (e : IndexEntry) (time : Option ℤ) : Type 0 where
+  pub entry : IsIndexLine line e
+  pub published : time ≡ publish_time entry.value
+
 -- the line, or an empty one in its place if it is withheld (own)
 abbrev pub published_line : PublishedBefore → List ℕ → List ℕ
 published_line bound line = if is_withheld bound line then [] else line
@@ -63,10 +69,6 @@ published_text bound text = join_with_byte 10 (map (published_line bound) (lines
 abbrev pub text_by : Option PublishedBefore → List ℕ → List ℕ
 text_by None text = text
 text_by (Some bound) text = published_text bound text
-
--- the line feed that ends a line, if there are lines after it (own)
-abbrev pub line_end : Bool → List ℕ
-line_end has_more = if has_more then 10 ∷ [] else []
 
 -- the contents of files, with the lines of versions that were published by the bound, if there is one (own)
 abbrev pub published_files : Option PublishedBefore → Files → Files

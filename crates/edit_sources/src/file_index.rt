@@ -14,8 +14,9 @@ use crate::crate_name::is_crate_name;
 use crate::index::{Index, IndexKrate, clone_versions};
 use crate::index_lines::read_lines;
 use crate::published::PublishedBefore;
+use crate::published_lines::{PublishedLines, read_published_lines};
 use crate::withheld::Withheld;
-use crate::withheld_crates::{RetainedCrates, WithheldCrates, retain_crates};
+use crate::withheld_crates::WithheldCrates;
 use edit_base::errors::{CargoResult, Error};
 use edit_version::fetch::IndexVersion;
 use std::alloc::{AllocError, Global};
@@ -59,22 +60,19 @@ impl FileIndex {
         let Some(bound) = bound else {
             return FileIndex::read(alloc, bytes);
         };
-        let retained = retain_crates(alloc, bytes, bound)?;
-        let RetainedCrates { published, crates } = retained;
-        match FileIndex::read(alloc, &published) {
-            Ok(index) => Ok(index.with_withheld(crates)),
-            Err(error) => Err(error),
-        }
-    }
-
-    /// The same lines, and what was held back of crates.
-    fn with_withheld(self, withheld: WithheldCrates) -> FileIndex
-        ensures groups { result.groups ≡ self.groups }
-        ensures withheld { result.withheld ≡ withheld }
-    {
-        let mut index = self;
-        index.withheld = withheld;
-        index
+        let lines = match read_published_lines(alloc, bytes, bound) {
+            Ok(lines) => lines,
+            Err(error) => return Err(error),
+        };
+        let PublishedLines {
+            entries,
+            crates,
+            ..
+        } = lines;
+        Ok(FileIndex {
+            groups: group_by_crate(alloc, entries)?,
+            withheld: crates,
+        })
     }
 }
 

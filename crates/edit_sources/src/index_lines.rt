@@ -1,13 +1,17 @@
 //! Parses the lines of an index file.
-ghost use Rattle.std.specs.Prelude.{◌≡◌, ◌==◌, ◌+◌, Ok, Err, IfOk, IfErr, IfSome, map, MatchResult, length, string_bytes, option_map, option_and_then, ◌≤◌, ◌∷◌};
+ghost use Rattle.std.specs.Prelude.{◌≡◌, ◌==◌, ◌+◌, Ok, Err, Some, IfOk, IfErr, IfSome, map, MatchResult, length, string_bytes, option_map, option_and_then, ◌≤◌, ◌∷◌};
 ghost use Rattle.edit_base.specs.declared.errors.Error.TheVariants.{IndexLine};
 ghost use Rattle.edit_base.specs.Errors.{IsMemory};
 ghost use Rattle.edit_version.specs.IndexEntry.{entry_of};
-ghost use Rattle.edit_sources.specs.IndexLines.{IsIndexLine, HaveEntriesInOrder, IsLineError, IsLinesError, is_blank, length_left, lines_left, lines_of, rust_version_of, optional_value_view, yanked_of};
+ghost use Rattle.edit_sources.specs.LineFields.{HasFields};
+ghost use Rattle.edit_sources.specs.IndexLines.{IsEntryValue, IsIndexLine, HaveEntriesInOrder, IsLineError, IsLinesError, is_blank, length_left, lines_left, lines_of, rust_version_of, optional_value_view, yanked_of};
 ghost use Rattle.memchr.specs.Find.{IsFirstByte, is_byte};
+ghost use Rattle.serde_json.specs.Data.{Members, object};
 ghost use Rattle.serde_json.specs.Find.{as_str};
+ghost use Rattle.serde_json.specs.Read.{read};
+ghost use Rattle.std.specs.Str.{IsUtf8};
 
-use crate::line_reader::read_fields;
+use crate::line_reader::{Fields, read_fields};
 use edit_base::errors::{CargoResult, Error};
 use edit_version::fetch::IndexVersion;
 use json::Scratch;
@@ -16,7 +20,7 @@ use serde_json::Value;
 use std::alloc::{AllocError, Global};
 
 /// Whether a line consists of nothing but spaces, tabs and carriage returns.
-fn is_blank_line(line: &[u8]) -> bool
+pub(crate) fn is_blank_line(line: &[u8]) -> bool
     ensures { result ≡ is_blank line.now }
 {
     line.iter()
@@ -69,21 +73,23 @@ pub(crate) fn clone_optional_str(
     }
 }
 
-/// Parses a line without building a tree; `None` where the token reader does not accept the line.
-fn entry_from_tokens(
-    alloc: Global,
-    bytes: &[u8],
-    scratch: &mut Scratch,
-) -> CargoResult<Option<IndexVersion>>
-    ensures ok { IfOk result (λ o. IfSome o (λ v. IsIndexLine bytes.now (entry_of v))) }
-    ensures error { IfErr result IsMemory }
+/// The fields of a line, without building a tree; `None` where the token reader does not accept the line.
+pub(crate) fn line_fields<'a>(bytes: &'a [u8], scratch: &'a mut Scratch) -> Option<Fields<'a>>
+    ensures { IfSome result (λ f. (ms : Members) × IsUtf8 bytes.now
+        × (read bytes.now ≡ Some (object ms)) × HasFields f ms) }
 {
     let Ok(text) = simdutf8::compat::from_utf8(bytes) else {
-        return Ok(None);
+        return None;
     };
-    let Some(fields) = read_fields(text, scratch) else {
-        return Ok(None);
-    };
+    read_fields(text, scratch)
+}
+
+/// The entry of the fields of a line; `None` where they have no name or no version.
+pub(crate) fn fields_entry(alloc: Global, fields: Fields<'_>) -> CargoResult<Option<IndexVersion>>
+    ensures ok { IfOk result (λ o. IfSome o (λ v. (ms : Members) → HasFields fields.entry ms
+        → IsEntryValue (object ms) (entry_of v))) }
+    ensures error { IfErr result IsMemory }
+{
     let Some(name) = fields.name else {
         return Ok(None);
     };
@@ -96,6 +102,21 @@ fn entry_from_tokens(
         yanked: fields.yanked,
         rust_version: clone_optional_str(alloc, fields.rust_version)?,
     }))
+}
+
+/// Parses a line without building a tree; `None` where the token reader does not accept the line.
+fn entry_from_tokens(
+    alloc: Global,
+    bytes: &[u8],
+    scratch: &mut Scratch,
+) -> CargoResult<Option<IndexVersion>>
+    ensures ok { IfOk result (λ o. IfSome o (λ v. IsIndexLine bytes.now (entry_of v))) }
+    ensures error { IfErr result IsMemory }
+{
+    match line_fields(bytes, scratch) {
+        Some(fields) => fields_entry(alloc, fields),
+        None => Ok(None),
+    }
 }
 
 /// Parses a line: by the token reader, or else by way of a tree.
@@ -115,7 +136,7 @@ fn read_line(
 }
 
 /// Parses a line by way of a tree; `Error::IndexLine` where it is malformed.
-fn entry_from_tree(alloc: Global, bytes: &[u8], line: usize) -> CargoResult<IndexVersion>
+pub(crate) fn entry_from_tree(alloc: Global, bytes: &[u8], line: usize) -> CargoResult<IndexVersion>
     ensures { MatchResult result (λ v. IsIndexLine bytes.now (entry_of v)) (IsLineError bytes.now line) }
 {
     let value = match Value::from_slice(alloc, bytes) {

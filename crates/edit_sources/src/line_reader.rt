@@ -18,6 +18,8 @@ pub(crate) struct Fields<'a> {
     pub(crate) version: Option<&'a str>,
     pub(crate) yanked: bool,
     pub(crate) rust_version: Option<&'a str>,
+    /// The text of the time at which the version was published.
+    pub(crate) published: Option<&'a str>,
 }
 
 /// Reads the value of a key into its field, or skips it.
@@ -55,6 +57,13 @@ fn read_member<'a>(reader: &mut Reader<'a>, key: &str, fields: Fields<'a>) -> Op
             ..fields
         });
     }
+    if key == "pubtime" {
+        let text = read_optional_text(reader)?;
+        return Some(Fields {
+            published: text,
+            ..fields
+        });
+    }
     skip_value(reader, 126)?;
     Some(fields)
 }
@@ -69,6 +78,7 @@ fn read_members<'a>(reader: &mut Reader<'a>) -> Option<Fields<'a>>
         version: None,
         yanked: false,
         rust_version: None,
+        published: None,
     };
     while let Some(key) = reader.next_key().ok()? {
         fields = read_member(reader, key, fields)?;

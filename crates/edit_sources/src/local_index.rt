@@ -6,9 +6,9 @@ ghost use Rattle.edit_sources.specs.LocalIndex.{HasWithheld, LocalGives, bound_o
 ghost use Rattle.edit_sources.specs.Published.{published_view};
 
 use crate::index::{Index, IndexKrate};
-use crate::index_lines::read_lines;
 use crate::index_path::index_path;
-use crate::published::{PublishedBefore, read_published};
+use crate::index_text::read_index_text;
+use crate::published::PublishedBefore;
 use edit_base::errors::CargoResult;
 use edit_store::store::Store;
 use std::alloc::Global;
@@ -60,14 +60,13 @@ impl<S: Store> Index for LocalIndex<S> {
             Ok(path) => path,
             Err(error) => return Err(error),
         };
-        let text = match read_published(&mut self.store, alloc, path.as_str(), self.bound) {
+        let text = match read_index_text(&mut self.store, alloc, path.as_str(), self.bound) {
             Ok(Some(text)) => text,
             Ok(None) => return Ok(None),
             Err(error) => return Err(error),
         };
-        let withheld = text.withheld;
-        match read_lines(alloc, &text.bytes) {
-            Ok(versions) => Ok(Some(IndexKrate { versions, withheld })),
+        match text.read_krate(alloc) {
+            Ok(krate) => Ok(Some(krate)),
             Err(error) => Err(error),
         }
     }

@@ -7,8 +7,8 @@ ghost use Rattle.edit_store.specs.Store.{OnlyReads};
 
 use crate::index::{Index, IndexKrate};
 use crate::index_dir::entry_path::entry_path;
-use crate::index_lines::read_lines;
-use crate::published::{PublishedBefore, read_published};
+use crate::index_text::read_index_text;
+use crate::published::PublishedBefore;
 use edit_base::errors::CargoResult;
 use edit_store::store::Store;
 use std::alloc::Global;
@@ -67,14 +67,13 @@ impl<S: Store> Index for DirIndex<S> {
             Ok(path) => path,
             Err(error) => return Err(error),
         };
-        let text = match read_published(&mut self.store, alloc, path.as_str(), self.bound) {
+        let text = match read_index_text(&mut self.store, alloc, path.as_str(), self.bound) {
             Ok(Some(text)) => text,
             Ok(None) => return Ok(None),
             Err(error) => return Err(error),
         };
-        let withheld = text.withheld;
-        match read_lines(alloc, &text.bytes) {
-            Ok(versions) => Ok(Some(IndexKrate { versions, withheld })),
+        match text.read_krate(alloc) {
+            Ok(krate) => Ok(Some(krate)),
             Err(error) => Err(error),
         }
     }

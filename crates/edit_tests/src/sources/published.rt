@@ -1,9 +1,9 @@
-//! Tests of `retain_published`, `PublishedBefore` and indexes with a bound.
+//! Tests of `PublishedBefore` and indexes with a bound.
 use super::calls::calls;
 use super::index_texts::files_of;
 use crate::assertion_helpers::unwrap_ok;
 use edit_cache::IndexCache;
-use edit_sources::{FileIndex, LocalIndex, PublishedBefore, retain_published};
+use edit_sources::{FileIndex, LocalIndex, PublishedBefore};
 
 /// A line of each crate, with the time at which its version was published.
 const DATED: &[u8] = b"\
@@ -17,40 +17,25 @@ const DATED: &[u8] = b"\
 {\"name\":\"east\",\"vers\":\"1.0.0\",\"pubtime\":\"2025-05-01T13:59:59+02:00\"}\n\
 {\"name\":\"west\",\"vers\":\"1.0.0\",\"pubtime\":\"2025-05-01T11:59:59-02:00\"}\n";
 
-/// The calls over them.
+/// The calls over them with a bound: a crate of which nothing is left has no entries.
 const OVER_DATED: &str = "\
 before the bound|krate|before||before 1.0.0.
 at the bound|krate|equal||equal 1.0.0.
-after the bound|krate|after||none
-no time|krate|absent||none
-null|krate|null||none
-a number|krate|number||none
-an unreadable text|krate|unreadable||none
-an earlier instant, a later clock|krate|east||east 1.0.0.
-a later instant, an earlier clock|krate|west||none";
-
-#[test]
-fn retains_published_lines(rt: HostRuntime) {
-    let bound = PublishedBefore::parse("2025-05-01T12:00:00Z").expect(&rt, "a time");
-    let bytes = unwrap_ok(&rt, retain_published(rt.alloc(), DATED, bound));
-    let index = unwrap_ok(&rt, FileIndex::read(rt.alloc(), &bytes));
-    let mut cache = IndexCache::new(rt.alloc(), index);
-    calls(&rt, rt.alloc(), &mut cache, OVER_DATED);
-}
-
-/// The calls over the same lines with a bound: a crate of which nothing is left has no entries.
-const OVER_BOUND: &str = "\
-at the bound|krate|equal||equal 1.0.0.
 after the bound|krate|after||
 no time|krate|absent||
+null|krate|null||
+a number|krate|number||
+an unreadable text|krate|unreadable||
+an earlier instant, a later clock|krate|east||east 1.0.0.
+a later instant, an earlier clock|krate|west||
 another crate|krate|other||none";
 
 #[test]
-fn finds_crates_without_published_lines(rt: HostRuntime) {
+fn finds_published_versions(rt: HostRuntime) {
     let bound = PublishedBefore::parse("2025-05-01T12:00:00Z");
     let index = unwrap_ok(&rt, FileIndex::with_bound(rt.alloc(), DATED, bound));
     let mut cache = IndexCache::new(rt.alloc(), index);
-    calls(&rt, rt.alloc(), &mut cache, OVER_BOUND);
+    calls(&rt, rt.alloc(), &mut cache, OVER_DATED);
 }
 
 /// Paths with lines: of one the first is not published by the bound, and of another the last is malformed.

@@ -21,6 +21,7 @@ returns-then-eq-clause-value c =
         version = ap (option_and_then as_str) (off_key (codes "vers") (codes "name") c.args.key.now d ms key refl) ∙ says.version;
         yanked = ap (yanked_of) (off_key (codes "yanked") (codes "name") c.args.key.now d ms key refl) ∙ says.yanked;
         rust_version = ap (rust_version_of) (off_key (codes "rust_version") (codes "name") c.args.key.now d ms key refl) ∙ says.rust_version;
+        published = ap (option_and_then as_str) (off_key (codes "pubtime") (codes "name") c.args.key.now d ms key refl) ∙ says.published;
       },
     )
 
@@ -35,6 +36,7 @@ returns-then-eq-2-clause-value c =
         version = ap (option_and_then as_str) (at_key (codes "vers") c.args.key.now d ms key);
         yanked = ap (yanked_of) (off_key (codes "yanked") (codes "vers") c.args.key.now d ms key refl) ∙ says.yanked;
         rust_version = ap (rust_version_of) (off_key (codes "rust_version") (codes "vers") c.args.key.now d ms key refl) ∙ says.rust_version;
+        published = ap (option_and_then as_str) (off_key (codes "pubtime") (codes "vers") c.args.key.now d ms key refl) ∙ says.published;
       },
     )
 
@@ -49,12 +51,17 @@ returns-then-eq-3-clause-value c =
         version = ap (option_and_then as_str) (off_key (codes "vers") (codes "yanked") c.args.key.now d ms key refl) ∙ says.version;
         yanked = ap (yanked_of) (at_key (codes "yanked") c.args.key.now d ms key);
         rust_version = ap (rust_version_of) (off_key (codes "rust_version") (codes "yanked") c.args.key.now d ms key refl) ∙ says.rust_version;
+        published = ap (option_and_then as_str) (off_key (codes "pubtime") (codes "yanked") c.args.key.now d ms key refl) ∙ says.published;
       },
     )
 
 rust : (o : Option (Bor (List ℕ))) (A : Data → Type 0) → MatchOption o (A null) (λ s. A (string s.now)) → (d : Data) × A d × (rust_version_of (Some d) ≡ Some (option_map (λ s. s.now) o))
 rust None A x = (null, x, refl)
 rust (Some s) A x = (string s.now, x, refl)
+
+time : (o : Option (Bor (List ℕ))) (A : Data → Type 0) → MatchOption o (A null) (λ s. A (string s.now)) → (d : Data) × A d × (as_str d ≡ option_map (λ s. s.now) o)
+time None A x = (null, x, refl)
+time (Some s) A x = (string s.now, x, refl)
 
 pub returns-then-eq-4-clause-value : goal.returns-then-eq-4-clause-value
 returns-then-eq-4-clause-value c =
@@ -68,6 +75,23 @@ returns-then-eq-4-clause-value c =
         version = ap (option_and_then as_str) (off_key (codes "vers") (codes "rust_version") c.args.key.now d ms key refl) ∙ says.version;
         yanked = ap yanked_of (off_key (codes "yanked") (codes "rust_version") c.args.key.now d ms key refl) ∙ says.yanked;
         rust_version = ap rust_version_of (at_key (codes "rust_version") c.args.key.now d ms key) ∙ t.2;
+        published = ap (option_and_then as_str) (off_key (codes "pubtime") (codes "rust_version") c.args.key.now d ms key refl) ∙ says.published;
+      },
+    )
+
+pub returns-then-eq-5-clause-value : goal.returns-then-eq-5-clause-value
+returns-then-eq-5-clause-value c =
+    let key : c.args.key.now ≡ codes "pubtime" = (bytes_eq-Decides c.args.key.now (codes "pubtime")).0 (sym c.eq-5.ensures ∙ c.if-eq-5.true) in
+    let t = time c.in_ok-text-4.text (λ d. converted of_json (value 126 c.args.reader.now) ≡ Some (d, c.read_optional_text-then-eq-5.new.reader)) (c.in_ok-text-4.ensures.value 126) in
+    let d = t.0 in (
+      d,
+      t.1,
+      λ ms says. record {
+        name = ap (option_and_then as_str) (off_key (codes "name") (codes "pubtime") c.args.key.now d ms key refl) ∙ says.name;
+        version = ap (option_and_then as_str) (off_key (codes "vers") (codes "pubtime") c.args.key.now d ms key refl) ∙ says.version;
+        yanked = ap yanked_of (off_key (codes "yanked") (codes "pubtime") c.args.key.now d ms key refl) ∙ says.yanked;
+        rust_version = ap rust_version_of (off_key (codes "rust_version") (codes "pubtime") c.args.key.now d ms key refl) ∙ says.rust_version;
+        published = ap (option_and_then as_str) (at_key (codes "pubtime") c.args.key.now d ms key) ∙ t.2;
       },
     )
 
@@ -77,7 +101,8 @@ returns-clause-value c =
     let not_name : c.args.key.now ≡ codes "name" → ⊥ = grind arith in
     let not_version : c.args.key.now ≡ codes "vers" → ⊥ = grind arith in
     let not_yanked : c.args.key.now ≡ codes "yanked" → ⊥ = grind arith in
-    let not_rust : c.args.key.now ≡ codes "rust_version" → ⊥ = grind arith in (
+    let not_rust : c.args.key.now ≡ codes "rust_version" → ⊥ = grind arith in
+    let not_published : c.args.key.now ≡ codes "pubtime" → ⊥ = grind arith in (
       d,
       c.in_ok-skip_value.ensures.value.1,
       λ ms says. record {
@@ -85,5 +110,6 @@ returns-clause-value c =
         version = ap (option_and_then as_str) (not_key (codes "vers") c.args.key.now d ms not_version) ∙ says.version;
         yanked = ap yanked_of (not_key (codes "yanked") c.args.key.now d ms not_yanked) ∙ says.yanked;
         rust_version = ap rust_version_of (not_key (codes "rust_version") c.args.key.now d ms not_rust) ∙ says.rust_version;
+        published = ap (option_and_then as_str) (not_key (codes "pubtime") c.args.key.now d ms not_published) ∙ says.published;
       },
     )

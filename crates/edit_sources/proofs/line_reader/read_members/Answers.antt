@@ -6,8 +6,8 @@ use Rattle.edit_sources.proofs.line_reader.read_members.Goals as goal
 
 pub loop-key-init : goal.loop-key-init
 loop-key-init c =
-    begin 126 (λ ms. HasFields (record { name = None; version = None; yanked = false; rust_version = None }) ms) c.args.reader.now
-    (record { name = refl; version = refl; yanked = refl; rust_version = refl })
+    begin 126 (λ ms. HasFields (record { name = None; version = None; yanked = false; rust_version = None; published = None }) ms) c.args.reader.now
+    (record { name = refl; version = refl; yanked = refl; rust_version = refl; published = refl })
 
 pub loop-key-preserved : goal.loop-key-preserved
 loop-key-preserved c =

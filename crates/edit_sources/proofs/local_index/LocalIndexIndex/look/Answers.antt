@@ -1,9 +1,9 @@
 use Rattle.edit_sources.proofs.SameLookups.{same_lookups}
 use Rattle.edit_sources.proofs.local_index.LocalIndexIndex.look.Goals as goal
 
-pub returns-in-Err-read_published-clause-same : goal.returns-in-Err-read_published-clause-same
-returns-in-Err-read_published-clause-same g c =
-    same_lookups _ _ c.read_published.ensures.tells c.read_published.ensures.published
+pub returns-in-Err-read_index_text-clause-same : goal.returns-in-Err-read_index_text-clause-same
+returns-in-Err-read_index_text-clause-same g c =
+    same_lookups _ _ c.read_index_text.ensures.tells c.read_index_text.ensures.published
 
 pub returns-clause-same : goal.returns-clause-same
-returns-clause-same g c = same_lookups _ _ c.read_published.ensures.tells c.read_published.ensures.published
+returns-clause-same g c = same_lookups _ _ c.read_index_text.ensures.tells c.read_index_text.ensures.published
