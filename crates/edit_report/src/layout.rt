@@ -1,5 +1,5 @@
 //! Layout of a table: lines of padded cells.
-ghost use Rattle.std.specs.Prelude.{◌≡◌, ◌++◌, ◌∷◌, ◌-◌, IfErr, IfOk, OnOk, ◌⊎◌, length, map, replicate, string_bytes};
+ghost use Rattle.std.specs.Prelude.{◌≡◌, ◌++◌, ◌∷◌, ◌-◌, ℕ, List, IfErr, IfOk, OnOk, ◌⊎◌, length, map, replicate, string_bytes};
 ghost use Rattle.std.specs.Io.KnownBytes.{Appends};
 ghost use Rattle.std.specs.List.{flat_map};
 ghost use Rattle.edit_base.specs.Errors.{IsMemory};
@@ -12,6 +12,9 @@ use crate::shell::shell_write_stdout;
 use edit_base::CargoResult;
 use std::alloc::{AllocError, Global};
 use std::io;
+
+/// The size in bytes from which lines are written together.
+const CHUNK: usize = 32_768;
 
 /// A chunk of 64 spaces, to pad with.
 const SPACES: &str = "                                                                ";
@@ -141,7 +144,20 @@ pub(crate) fn lines_text(
     sized_text(alloc, columns.as_slice(), lines)
 }
 
-/// Writes lines one by one, for columns with these widths.
+/// Writes a text and empties it, if it has the size of a chunk.
+fn write_full<W: io::Write>(text: &mut String, out: &mut W) -> CargoResult<()>
+    ensures bytes { OnOk result ((full : List ℕ) × Appends (W.contents out.old) (W.contents out.new) full
+        × (string_bytes text.old ≡ full ++ string_bytes text.new)) }
+    ensures error { IfErr result (λ e. e ≡ Output) }
+{
+    if text.len() >= CHUNK {
+        shell_write_stdout(out, text.as_str())?;
+        text.clear();
+    }
+    Ok(())
+}
+
+/// Writes lines in chunks, for columns with these widths.
 fn write_sized<W: io::Write>(
     alloc: Global,
     columns: &[SizedColumn],
@@ -154,11 +170,10 @@ fn write_sized<W: io::Write>(
 {
     let mut text = String::new(alloc);
     for line in lines {
-        text.clear();
         push_line(&mut text, columns, line)?;
-        shell_write_stdout(out, text.as_str())?;
+        write_full(&mut text, out)?;
     }
-    Ok(())
+    shell_write_stdout(out, text.as_str())
 }
 
 /// Writes the text of a table with these lines.

@@ -148,8 +148,8 @@ pub fn table_text(alloc: Global, rows: &[Row], verbosity: i8) -> CargoResult<Str
 
 /// Writes the table of a report of this verbosity; nothing where no row is shown.
 ///
-/// A table has as many bytes as its rows times its widest cells: it is written line by line, so that no more
-/// than one line of it is held.
+/// A table has as many bytes as its rows times its widest cells: it is written in chunks of some lines, so
+/// that no more than 32 kB and one line of it are held.
 pub fn write_table<W: io::Write>(
     alloc: Global,
     rows: &[Row],
