@@ -47,12 +47,14 @@ class Cost:
 @dataclass
 class Job:
     """The same work for several programs: the arguments of each, the texts of the files that a run may change
-    before and after it, by their paths, the folder in which it runs, and its variables."""
+    before and after it, by their paths, the folder in which it runs, its variables, and the file that is its standard
+    input, if there is one."""
     folder: str
     arguments: dict
     before: dict = field(default_factory=dict)
     after: dict = field(default_factory=dict)
     variables: dict = field(default_factory=dict)
+    source: str = os.devnull
 
     def restore(self):
         """Writes the files as they have to be before a run."""
@@ -106,9 +108,9 @@ class Room:
         """Runs a program once; returns the cost."""
         out, errors_path = (os.path.join(self.folder, name) for name in ("measured", "errors"))
         args = [self.starter, out, self.programs[name], *job.arguments[name]]
-        with open(errors_path, "w", encoding="utf-8") as errors:
+        with open(errors_path, "w", encoding="utf-8") as errors, open(job.source, "rb") as source:
             start = time.perf_counter()
-            subprocess.run(args, cwd=job.folder, stdin=subprocess.DEVNULL, stdout=subprocess.DEVNULL,
+            subprocess.run(args, cwd=job.folder, stdin=source, stdout=subprocess.DEVNULL,
                            stderr=errors, env={"HOME": "/nonexistent", **job.variables}, check=True)
             wall = time.perf_counter() - start
         with open(out, encoding="utf-8") as file:
@@ -136,10 +138,11 @@ class Room:
             return None
         job.restore()
         within = [f"--toggle-collect={function}"] if function else []
-        done = subprocess.run(
-            ["valgrind", "--tool=callgrind", "--callgrind-out-file=/dev/null", *within, self.programs[name],
-             *job.arguments[name]], cwd=job.folder, stdin=subprocess.DEVNULL, stdout=subprocess.DEVNULL,
-            stderr=subprocess.PIPE, env=os.environ | job.variables, text=True, check=False)
+        with open(job.source, "rb") as source:
+            done = subprocess.run(
+                ["valgrind", "--tool=callgrind", "--callgrind-out-file=/dev/null", *within, self.programs[name],
+                 *job.arguments[name]], cwd=job.folder, stdin=source, stdout=subprocess.DEVNULL,
+                stderr=subprocess.PIPE, env=os.environ | job.variables, text=True, check=False)
         found = re.search(r"Collected : (\d+)", done.stderr)
         if done.returncode != 0 or not found:
             raise Failed(f"valgrind with {name} ended with status {done.returncode}: {done.stderr[-500:]}")

@@ -8,6 +8,7 @@ from fetching import fetching
 from jobs import (OWN_MEMORY, SET_VERSION, blank_lines, collisions, long_manifest, long_text, memory,
                   real_lines, share, short_lines, start, whole_upgrade, writing)
 from measure import DISK, TMPFS
+from ratios import plan_beside_upgrade, with_bound
 from warm import warm_run
 
 
@@ -35,6 +36,7 @@ ROWS = [
     Row("start", "`upgrade`, no entries", start, None, None),
     Row("lines-1000", "`upgrade`, 20 index lines an entry", real_lines, (1_000, 20), (20, 5), 0.8),
     Row("lines-10000", "`upgrade`, 20 index lines an entry", real_lines, (10_000, 20), (40, 5), 0.8),
+    Row("with-bound", "`upgrade --published-before`, instructions", with_bound, (1_000, 20), (20, 5), 1.1, "without"),
     Row("workspace-30", "`upgrade -i -n`", whole_upgrade, (30, 300, 100, 300), (3, 40, 2, 6), 1.35,
         original=0.8),
     Row("workspace-300", "`upgrade -i -n`", whole_upgrade, (300, 300, 100, 300), (6, 40, 2, 6), 1.4,
@@ -44,6 +46,7 @@ ROWS = [
         75, "M"),
     Row("run-warm", "`cargo upgrade -n -i` on line, all cached, less the time of curl", warm_run, (30, 300, 100, 300),
         (3, 40, 2, 6), 1.2, "off line"),
+    Row("plan-300", "`plan`, instructions", plan_beside_upgrade, 300, 3, 2.0, "upgrade"),
     Row("short-10000", "`upgrade`, strings, a short line each", short_lines("string"), 10_000, 50, 1.0),
     Row("inline-10000", "`upgrade`, inline tables, a short line each", short_lines("inline"), 10_000, 50),
     Row("blank-10", "`upgrade`, blank index lines", blank_lines, 10_000_000, 10_000),

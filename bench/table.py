@@ -24,7 +24,7 @@ def figure_text(value, unit):
         return f"{value:.0f} %"
     if unit == "M":
         return f"{value:,.0f} M instructions"
-    return f"{value:.2f} of {unit}" if unit in ("peer", "original", "off line") else f"{value:.1f} × {unit}"
+    return f"{value:.2f} of {unit}" if unit in ("peer", "original", "off line", "without", "upgrade") else f"{value:.1f} × {unit}"
 
 
 def verdict(row, result, is_judged):

@@ -2,12 +2,15 @@
 ghost use Rattle.std.specs.Prelude.{◌≤◌, IfOk};
 
 use crate::error::RequestError;
-use crate::fields::{put, put_changes, put_error, put_lookups, put_message, put_messages};
+use crate::fields::{
+    changed_manifests, write_edits, write_error, write_lookups, write_manifests, write_message,
+    write_messages, write_number,
+};
 use crate::request::{Request, read_request};
 use edit_program::{RunFolders, try_run};
 use edit_steps::RunResult;
 use edit_store::MemoryStore;
-use serde_json::{Map, Value};
+use json::Writer;
 use std::alloc::{AllocError, Global};
 
 /// The response to a request.
@@ -65,49 +68,67 @@ fn status_of(run: &Run) -> u8
     }
 }
 
-/// The response to a request that was run.
+/// Writes the member `error` of a run: `null` where there was none.
+fn write_run_error(alloc: Global, out: &mut Writer, run: &Run) -> Result<(), AllocError> {
+    match &run.result {
+        Err(failure) => write_error(alloc, out, failure),
+        Ok(2) => write_message(out, text_of(&run.err)),
+        Ok(_) => {
+            out.key("error")?;
+            out.null()
+        }
+    }
+}
+
+/// The text that was written.
+fn written_text(out: Writer) -> Result<String, AllocError> {
+    match String::from_utf8(out.into_inner()) {
+        Ok(text) => Ok(text),
+        Err(_) => Err(AllocError),
+    }
+}
+
+/// The response to a request that was run. Its members are in the order of their keys.
 fn respond(
     alloc: Global,
     request: &mut Request,
     run: &Run,
     status: u8,
 ) -> Result<String, AllocError> {
-    let mut members = Map::new(alloc);
-    put(alloc, &mut members, "version", Value::from(1u8))?;
-    put(alloc, &mut members, "status", Value::from(status))?;
-    put(alloc, &mut members, "error", Value::Null)?;
-    let printed = text_of(&run.err);
-    match &run.result {
-        Err(failure) => put_error(alloc, &mut members, failure)?,
-        Ok(2) => put_message(alloc, &mut members, printed)?,
-        Ok(_) => {}
-    }
-    put(
-        alloc,
-        &mut members,
-        "log",
-        Value::try_from_str(alloc, printed)?,
-    )?;
     let is_lookup = request
         .args
         .first()
         .is_some_and(|arg| arg.as_str() == "looks");
-    if is_lookup {
-        put_lookups(alloc, &mut members, text_of(&run.out))?;
-    } else {
-        put_messages(alloc, &mut members, text_of(&run.out))?;
-        put_changes(alloc, &mut members, &mut request.store, &request.manifests)?;
+    let changed = changed_manifests(alloc, &mut request.store, &request.manifests)?;
+    let mut out = Writer::new(Vec::new(alloc));
+    out.begin_object()?;
+    if !is_lookup {
+        write_edits(alloc, &mut out, &changed)?;
     }
-    Value::Object(members).to_string(alloc)
+    write_run_error(alloc, &mut out, run)?;
+    out.key("log")?;
+    out.string(text_of(&run.err))?;
+    if is_lookup {
+        write_lookups(&mut out, text_of(&run.out))?;
+    } else {
+        write_manifests(&mut out, &changed)?;
+        write_messages(alloc, &mut out, text_of(&run.out))?;
+    }
+    write_number(&mut out, "status", status as u64)?;
+    write_number(&mut out, "version", 1)?;
+    out.end_object()?;
+    written_text(out)
 }
 
 /// The response to a malformed request.
 fn respond_malformed(alloc: Global, message: &str) -> Result<String, AllocError> {
-    let mut members = Map::new(alloc);
-    put(alloc, &mut members, "version", Value::from(1u8))?;
-    put(alloc, &mut members, "status", Value::from(2u8))?;
-    put_message(alloc, &mut members, message)?;
-    Value::Object(members).to_string(alloc)
+    let mut out = Writer::new(Vec::new(alloc));
+    out.begin_object()?;
+    write_message(&mut out, message)?;
+    write_number(&mut out, "status", 2)?;
+    write_number(&mut out, "version", 1)?;
+    out.end_object()?;
+    written_text(out)
 }
 
 /// Answers a request, a JSON document of this form (docs/PLAN.md has all members): the texts of manifests,

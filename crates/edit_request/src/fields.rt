@@ -1,47 +1,19 @@
-//! The members of the response to a request.
+//! The members of the response to a request, as JSON.
 ghost use Rattle.std.specs.Prelude.{◌≡◌, None};
 
 use crate::edits::{Edit, edits_between};
 use crate::files::RequestFile;
-use crate::members::Members;
 use edit_steps::RunError;
 use edit_store::{MemoryStore, Store};
-use serde_json::{Map, Value};
+use json::{Reader, Scratch, Token, Writer, is_valid};
 use std::alloc::{AllocError, Global};
 
-/// Adds a member to an object.
-pub(crate) fn put(
-    alloc: Global,
-    members: &mut Members,
-    key: &str,
-    value: Value,
-) -> Result<(), AllocError> {
-    members.insert(String::from_str(alloc, key)?, value)?;
-    Ok(())
-}
-
-/// Adds a member with a text, or with `null` where there is none.
-fn put_text(
-    alloc: Global,
-    members: &mut Members,
-    key: &str,
-    text: Option<&str>,
-) -> Result<(), AllocError> {
-    let value = match text {
-        Some(text) => Value::try_from_str(alloc, text)?,
-        None => Value::Null,
-    };
-    put(alloc, members, key, value)
-}
-
-/// An edit of a manifest as an object.
-fn edit_value(alloc: Global, path: &str, edit: Edit<'_>) -> Result<Value, AllocError> {
-    let mut members = Map::new(alloc);
-    put_text(alloc, &mut members, "path", Some(path))?;
-    put(alloc, &mut members, "start", Value::from(edit.start))?;
-    put(alloc, &mut members, "end", Value::from(edit.end))?;
-    put_text(alloc, &mut members, "text", Some(edit.text))?;
-    Ok(Value::Object(members))
+/// A manifest that a run changed.
+#[derive(Drop)]
+pub(crate) struct ChangedManifest<'a> {
+    file: &'a RequestFile,
+    /// The new text.
+    text: String,
 }
 
 /// The text of a manifest after the run, where it was changed.
@@ -53,26 +25,78 @@ fn new_text(alloc: Global, store: &mut MemoryStore, manifest: &RequestFile) -> O
     String::from_utf8(bytes).ok()
 }
 
-/// Adds the members `manifests`, the new text of each manifest that changes, and `edits`.
-pub(crate) fn put_changes(
+/// The manifests that a run changed, in their order.
+pub(crate) fn changed_manifests<'a>(
     alloc: Global,
-    members: &mut Members,
     store: &mut MemoryStore,
-    manifests: &[RequestFile],
-) -> Result<(), AllocError> {
-    let mut texts = Map::new(alloc);
-    let mut edits = Vec::new(alloc);
-    for manifest in manifests {
-        if let Some(text) = new_text(alloc, store, manifest) {
-            let name = manifest.name.as_str();
-            for edit in edits_between(alloc, manifest.text.as_str(), text.as_str())? {
-                edits.push(edit_value(alloc, name, edit)?)?;
-            }
-            put_text(alloc, &mut texts, name, Some(text.as_str()))?;
+    manifests: &'a [RequestFile],
+) -> Result<Vec<ChangedManifest<'a>>, AllocError> {
+    let mut changed = Vec::new(alloc);
+    for file in manifests {
+        if let Some(text) = new_text(alloc, store, file) {
+            changed.push(ChangedManifest { file, text })?;
         }
     }
-    put(alloc, members, "manifests", Value::Object(texts))?;
-    put(alloc, members, "edits", Value::Array(edits))
+    Ok(changed)
+}
+
+/// Writes a member with a text, or with `null` where there is none.
+fn write_text(out: &mut Writer, key: &str, text: Option<&str>) -> Result<(), AllocError> {
+    out.key(key)?;
+    match text {
+        Some(text) => out.string(text),
+        None => out.null(),
+    }
+}
+
+/// Writes a member with a number.
+pub(crate) fn write_number(out: &mut Writer, key: &str, number: u64) -> Result<(), AllocError> {
+    out.key(key)?;
+    out.u64(number)
+}
+
+/// Writes an edit of a manifest as an object.
+fn write_edit(out: &mut Writer, path: &str, edit: Edit<'_>) -> Result<(), AllocError> {
+    out.begin_object()?;
+    write_number(out, "end", edit.end as u64)?;
+    write_text(out, "path", Some(path))?;
+    write_number(out, "start", edit.start as u64)?;
+    write_text(out, "text", Some(edit.text))?;
+    out.end_object()
+}
+
+/// Writes the member `edits`: those that turn the texts of manifests into the new ones.
+pub(crate) fn write_edits(
+    alloc: Global,
+    out: &mut Writer,
+    changed: &[ChangedManifest<'_>],
+) -> Result<(), AllocError> {
+    out.key("edits")?;
+    out.begin_array()?;
+    for manifest in changed {
+        let old = manifest.file.text.as_str();
+        for edit in edits_between(alloc, old, manifest.text.as_str())? {
+            write_edit(out, manifest.file.name.as_str(), edit)?;
+        }
+    }
+    out.end_array()
+}
+
+/// Writes the member `manifests`: the new text of each manifest that changes, by its path.
+pub(crate) fn write_manifests(
+    out: &mut Writer,
+    changed: &[ChangedManifest<'_>],
+) -> Result<(), AllocError> {
+    out.key("manifests")?;
+    out.begin_object()?;
+    for manifest in changed {
+        write_text(
+            out,
+            manifest.file.name.as_str(),
+            Some(manifest.text.as_str()),
+        )?;
+    }
+    out.end_object()
 }
 
 /// The place of an error and the excerpt of the file that follows it, where each is known.
@@ -88,71 +112,86 @@ pub fn place_and_excerpt(failure: &RunError) -> (Option<&str>, Option<&str>)
     }
 }
 
-/// Adds the member `error`: the number and message of an error, and what is known of it.
-pub(crate) fn put_error(
+/// Writes the member `error`: the number and message of an error, and what is known of it.
+pub(crate) fn write_error(
     alloc: Global,
-    members: &mut Members,
+    out: &mut Writer,
     failure: &RunError,
 ) -> Result<(), AllocError> {
     let error = &failure.error;
     let message = format!(in alloc; "{error}")?;
-    let mut object = Map::new(alloc);
-    put(alloc, &mut object, "number", Value::from(error.number()))?;
-    put_text(alloc, &mut object, "message", Some(message.as_str()))?;
     let (place, excerpt) = place_and_excerpt(failure);
-    put_text(alloc, &mut object, "place", place)?;
-    put_text(alloc, &mut object, "excerpt", excerpt)?;
-    put_text(alloc, &mut object, "cause", failure.cause.as_deref())?;
-    put_text(alloc, &mut object, "help", failure.help.as_deref())?;
-    put(alloc, members, "error", Value::Object(object))
+    out.key("error")?;
+    out.begin_object()?;
+    write_text(out, "cause", failure.cause.as_deref())?;
+    write_text(out, "excerpt", excerpt)?;
+    write_text(out, "help", failure.help.as_deref())?;
+    write_text(out, "message", Some(message.as_str()))?;
+    write_number(out, "number", error.number() as u64)?;
+    write_text(out, "place", place)?;
+    out.end_object()
 }
 
-/// Adds the member `error` with a message alone.
-pub(crate) fn put_message(
-    alloc: Global,
-    members: &mut Members,
-    message: &str,
-) -> Result<(), AllocError> {
-    let mut object = Map::new(alloc);
-    put(alloc, &mut object, "number", Value::Null)?;
-    put_text(alloc, &mut object, "message", Some(message))?;
-    put(alloc, members, "error", Value::Object(object))
+/// Writes the member `error` with a message alone.
+pub(crate) fn write_message(out: &mut Writer, message: &str) -> Result<(), AllocError> {
+    out.key("error")?;
+    out.begin_object()?;
+    write_text(out, "message", Some(message))?;
+    write_text(out, "number", None)?;
+    out.end_object()
 }
 
-/// Adds the member `messages`: each line that was printed, as JSON.
-pub(crate) fn put_messages(
-    alloc: Global,
-    members: &mut Members,
-    printed: &str,
-) -> Result<(), AllocError> {
-    let mut messages = Vec::new(alloc);
-    for line in printed.lines() {
-        if let Ok(message) = Value::from_str(alloc, line) {
-            messages.push(message)?;
+/// Writes a JSON value token by token; nothing of a text that is none.
+fn write_json(out: &mut Writer, text: &str, scratch: &mut Scratch) -> Result<(), AllocError> {
+    if !is_valid(text, scratch) {
+        return Ok(());
+    }
+    let Ok(mut reader) = Reader::new(text, scratch) else {
+        return Err(AllocError);
+    };
+    while let Some(token) = reader.next() {
+        if token == Token::Bad {
+            return Ok(());
         }
+        out.token(token)?;
     }
-    put(alloc, members, "messages", Value::Array(messages))
+    Ok(())
 }
 
-/// A lookup that was printed as a line, as an object.
-fn lookup_value(alloc: Global, line: &str) -> Result<Value, AllocError> {
-    let mut object = Map::new(alloc);
-    let mut fields = line.split('\t');
-    for key in ["registry", "name", "path"] {
-        put_text(alloc, &mut object, key, fields.next())?;
-    }
-    Ok(Value::Object(object))
-}
-
-/// Adds the member `lookups`: each line that was printed, as an object.
-pub(crate) fn put_lookups(
+/// Writes the member `messages`: each line that was printed, as JSON.
+pub(crate) fn write_messages(
     alloc: Global,
-    members: &mut Members,
+    out: &mut Writer,
     printed: &str,
 ) -> Result<(), AllocError> {
-    let mut lookups = Vec::new(alloc);
+    let mut scratch = Scratch::new(alloc);
+    out.key("messages")?;
+    out.begin_array()?;
     for line in printed.lines() {
-        lookups.push(lookup_value(alloc, line)?)?;
+        write_json(out, line, &mut scratch)?;
     }
-    put(alloc, members, "lookups", Value::Array(lookups))
+    out.end_array()
+}
+
+/// Writes a lookup that was printed as a line, as an object.
+fn write_lookup(out: &mut Writer, line: &str) -> Result<(), AllocError> {
+    let mut fields = line.split('\t');
+    let registry = fields.next();
+    let name = fields.next();
+    let path = fields.next();
+    out.begin_object()?;
+    write_text(out, "name", name)?;
+    write_text(out, "path", path)?;
+    write_text(out, "registry", registry)?;
+    out.end_object()
+}
+
+/// Writes the member `lookups`: each line that was printed, as an object.
+pub(crate) fn write_lookups(out: &mut Writer, printed: &str) -> Result<(), AllocError> {
+    out.key("lookups")?;
+    out.begin_array()?;
+    for line in printed.lines() {
+        write_lookup(out, line)?;
+    }
+    out.end_array()
 }
