@@ -86,8 +86,8 @@ fn print_report<E: Write>(report: &Report, err: &mut E) -> u8
     }
 }
 
-/// Checks the output of `curl --version`, and returns the exit status: 1, with an error, if curl is missing or
-/// too old.
+/// Checks the output of `curl --version`, and returns the exit status: 1, with an error, if curl is missing
+/// or too old.
 pub fn check_curl<E: Write>(text: &str, err: &mut E) -> u8
     ensures new { IsNewEnough text.now → result ≡ 0 }
     ensures old { (IsNewEnough text.now → ⊥) → result ≡ 1 }

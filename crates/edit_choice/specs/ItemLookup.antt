@@ -53,7 +53,8 @@ abbrev pub IsReach : List RowItem → ℕ → ℕ → Type 0
 IsReach items number reach =
     (end : ℕ) → 0 < end → nat_le end reach ≡ list_any (begins_by number end) items
 
--- the text of an item that chooses a row which is not there, by how many rows change and which names they have
+-- the text of an item that chooses a row which is not there, by how many rows change and which names they
+-- have
 abbrev pub missing_by : ℕ → (List ℕ → Bool) → RowItem → Option (List ℕ)
 missing_by count changes (item.Numbers first last) = if nat_le last count then None else Some (decimal last)
 missing_by count changes (item.Name name) = if changes name.now then None else Some name.now

@@ -109,7 +109,8 @@ fn missing_text(
     }
 }
 
-/// The texts of the items that choose a row which is not there, by how many rows change and the names of these.
+/// The texts of the items that choose a row which is not there, by how many rows change and the names of
+/// these.
 fn missing_texts(
     alloc: Global,
     items: &[RowItem<'_>],

@@ -1,5 +1,5 @@
 -- The first line of a text, and the texts of cached entries.
-use Rattle.std.proofs.Common.{◌≡◌, ◌∙◌, ℕ, suc, ◌+◌, ◌<◌, ◌≤◌, List, [], ◌∷◌, ◌++◌, Bool, false, cond, not, eqb, Option, Some, None, length, take, drop, get_or, refl, ap, sym, subst, arith}
+use Rattle.std.proofs.Common.{◌≡◌, ◌∙◌, ℕ, suc, ◌+◌, ◌<◌, ◌≤◌, List, [], ◌∷◌, ◌++◌, Bool, false, cond, not, eqb, Some, None, length, take, drop, get_or, refl, ap, sym, subst, arith}
 use Rattle.std.specs.Prelude.{codes}
 use Rattle.std.specs.List.{after_first, position, position_or_len}
 use Rattle.std.proofs.lemmas.Grind.{common_steps}

@@ -123,7 +123,7 @@ said_more crates i c d old new lt is so_far added = λ name.
     ∙ ap (λ (x : CratePolicy). filter test (take i crates ++ x ∷ [])) is
     ∙ ap (filter test) (sym (take_more crates i d lt))
 
--- a map without a name has the same of others
+-- where a map loses a name, each other name has the same policies as before
 pub others_stay : (name : List ℕ) (old new : HoldMap)
     → UpdatesBy (λ (x y : Bor (List ℕ)). slice_cmp nat_cmp x.now y.now)
     (λ (k : Bor (List ℕ)). slice_cmp nat_cmp name k.now) old new None → IsWithout name old new

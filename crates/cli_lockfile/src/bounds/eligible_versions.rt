@@ -15,8 +15,8 @@ use std::alloc::{AllocError, Global};
 /// An index of the run, restricted to versions within the bounds.
 type BoundedIndex<'a> = RestrictedIndex<'a, DirIndex<IndexFiles>>;
 
-/// The lists of index entries, in the folder of the run: the first has the entries for the upgrade, the second
-/// the further ones for packages that changed in the lock file.
+/// The lists of index entries, in the folder of the run: the first has the entries for the upgrade, the
+/// second the further ones for packages that changed in the lock file.
 pub(super) const INDEXES: [&str; 2] = ["index", "more/index"];
 
 /// Opens an index of the run.
