@@ -230,7 +230,7 @@ def workspaces():
     yield Family("metadata that name one package again and again", 40000, one_package)
     yield Family("a policy that holds each crate", 6000, lambda n: upgrade(
         [entries(n)], lines(n), root=b"[workspace]\n[workspace.metadata.cargo-edit]\n"
-        + numbered(n, b'crates.c%d.hold = "<2"\n')), ("work",))
+        + numbered(n, b'crates.c%d.hold = "<2"\n')))
     yield Family("a configuration with keys of 80 parts", 4000, lambda n: upgrade(
         [PACKAGE + b'x="1.0"\n'], versions(5),
         config=numbered(n, b"a%d." + b".".join([b"a"] * 79) + b"=1\n")))

@@ -1,20 +1,16 @@
 -- The items of a choice by their numbers and names.
-use Rattle.std.proofs.Common.{◌≡◌, ◌<◌, ◌+◌, ◌∙◌, ◌∷◌, ◌++◌, [], ℕ, List, Bool, true, false, ap, arith, cond, eqb, get_or, inl, inr, leb, length, refl, string_bytes, subst, sym, take}
+use Rattle.std.proofs.Common.{◌≡◌, ◌<◌, ◌+◌, ◌∙◌, ◌∷◌, ◌++◌, [], ℕ, List, Bool, true, false, ap, arith, eqb, get_or, inl, inr, leb, length, refl, string_bytes, subst, sym, take}
 use Rattle.std.specs.Prelude.{◌==◌, ◌&&◌, ◌||◌, is_some, nat_le}
-use Rattle.std.specs.Borrow.{Bor}
-use Rattle.std.specs.BTreeSet.{BTreeSet, UpdatesBy}
-use Rattle.std.specs.Cmp.Lexicographic.{slice_cmp}
 use Rattle.std.specs.List.{list_any}
-use Rattle.std.specs.Ordering.{nat_cmp}
 use Rattle.std.specs.Str.{bytes_eq}
 use Rattle.std.proofs.lemmas.Bool.{cases_Bool, eq-eqb, eqb-true, le-leb, leb-false, leb-true, lt-leb, ne_eqb}
 use Rattle.std.proofs.lemmas.List.{take_more}
 use Rattle.std.proofs.lemmas.List.Folds.{list_any-append}
-use Rattle.std.proofs.lemmas.Map.Text.{is_eq-slice_cmp}
+use Rattle.edit_report.specs.NameSets.{has_name}
 use Rattle.edit_report.specs.declared.row.Row.{Row}
 use Rattle.edit_choice.specs.ChosenRows.{is_change_of}
 use Rattle.edit_choice.specs.Choices.{is_chosen_by}
-use Rattle.edit_choice.specs.ItemLookup.{IsLookupOf, IsReach, begins_at, begins_by, end_at, has_name, is_name_of}
+use Rattle.edit_choice.specs.ItemLookup.{IsLookupOf, IsReach, begins_at, begins_by, end_at, is_name_of}
 use Rattle.edit_choice.specs.declared.item_lookup.ItemLookup.{ItemLookup}
 use Rattle.edit_choice.specs.declared.items.RowItem.{RowItem}
 use Rattle.edit_choice.specs.declared.items.RowItem.TheVariants as item
@@ -132,21 +128,6 @@ reach_first items lookup reach of has = λ end some.
     ∙ any_same (begins_at 0 end) (begins_by 0 end) items (at_none end)
 
 -- ---- names
-
-cond_or : (a b : Bool) → cond b true a ≡ (a || b)
-cond_or true true = refl
-cond_or true false = refl
-cond_or false true = refl
-cond_or false false = refl
-
--- a set that got a name
-pub name_more : (key : List ℕ) (old new : BTreeSet (Bor (List ℕ)))
-    → UpdatesBy (λ (x y : Bor (List ℕ)). slice_cmp nat_cmp x.now y.now)
-    (λ (k : Bor (List ℕ)). slice_cmp nat_cmp key k.now) old new true
-    → (name : List ℕ) → has_name new name ≡ (has_name old name || bytes_eq key name)
-name_more key old new updates name =
-    updates.0 (record { ref_ptr = (0, 0); now = name }) ∙ ap (λ b. cond b true (has_name old name))
-    (is_eq-slice_cmp key name) ∙ cond_or (has_name old name) (bytes_eq key name)
 
 -- a row that changes is one of this crate where it has its name
 pub change_of : (name : List ℕ) (row : Row) → is_some row.change ≡ true

@@ -2,11 +2,11 @@
 use Rattle.std.specs.Prelude.{◌≡◌, ◌<◌, ◌==◌, ◌&&◌, ℕ, List, Bool, Option, Some, None, decimal, false, if◌then◌else◌, nat_le, unwrap_or}
 use Rattle.std.specs.Borrow.{Bor}
 use Rattle.std.specs.BTreeMap.{BTreeMap, get}
-use Rattle.std.specs.BTreeSet.{BTreeSet, contains_by}
-use Rattle.std.specs.Cmp.Lexicographic.{slice_cmp}
+use Rattle.std.specs.BTreeSet.{BTreeSet}
 use Rattle.std.specs.List.{list_any}
 use Rattle.std.specs.Ordering.{nat_cmp}
 use Rattle.std.specs.Str.{bytes_eq}
+use Rattle.edit_report.specs.NameSets.{has_name}
 use Rattle.edit_choice.specs.declared.item_lookup.ItemLookup.{ItemLookup}
 use Rattle.edit_choice.specs.declared.items.RowItem.{RowItem}
 use Rattle.edit_choice.specs.declared.items.RowItem.TheVariants as item
@@ -14,10 +14,6 @@ use Rattle.edit_choice.specs.declared.items.RowItem.TheVariants as item
 -- the last number that a map has for ranges which begin at this number; 0 where it has none
 abbrev pub end_at : BTreeMap ℕ ℕ → ℕ → ℕ
 end_at ends first = unwrap_or (get nat_cmp ends first) 0
-
--- a set has this name
-abbrev pub has_name : BTreeSet (Bor (List ℕ)) → List ℕ → Bool
-has_name names name = contains_by (λ k. slice_cmp nat_cmp name k.now) names
 
 -- the item is a range that begins at the first number, and ends at the second one or later
 abbrev pub begins_at : ℕ → ℕ → RowItem → Bool

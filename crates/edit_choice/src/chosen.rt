@@ -2,8 +2,9 @@
 ghost use Rattle.std.specs.Prelude.{◌≡◌, ℕ, IfErr, IfOk, List, map, option_map, string_bytes};
 ghost use Rattle.std.specs.List.{filter_map};
 ghost use Rattle.edit_base.specs.Errors.{IsMemory};
+ghost use Rattle.edit_report.specs.NameSets.{has_name};
 ghost use Rattle.edit_choice.specs.ChosenRows.{AreChosen, IsUnchanged, count_changes, has_change, missing_texts};
-ghost use Rattle.edit_choice.specs.ItemLookup.{has_name, missing_by};
+ghost use Rattle.edit_choice.specs.ItemLookup.{missing_by};
 
 use crate::item_lookup::ItemLookup;
 use crate::items::{RowChoice, RowItem};

@@ -1,6 +1,7 @@
 //! The items of a choice, arranged for lookups.
 ghost use Rattle.std.specs.Prelude.{◌≡◌, ◌||◌, ℕ, IfOk, OnOk, nat_le};
-ghost use Rattle.edit_choice.specs.ItemLookup.{AreEnds, AreNames, IsLookupOf, begins_at, end_at, has_name};
+ghost use Rattle.edit_report.specs.NameSets.{has_name};
+ghost use Rattle.edit_choice.specs.ItemLookup.{AreEnds, AreNames, IsLookupOf, begins_at, end_at};
 ghost use Rattle.edit_choice.specs.declared.items.RowItem.TheVariants as item;
 
 use crate::items::RowItem;

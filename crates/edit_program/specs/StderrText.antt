@@ -9,7 +9,6 @@ use Rattle.std.specs.Option.{option_map_or}
 use Rattle.std.specs.Ordering.{nat_cmp}
 use Rattle.std.specs.Str.{bytes_eq}
 use Rattle.edit_metadata.specs.declared.input.Input.{Input}
-use Rattle.edit_report.specs.HoldNotes.{hold_notes}
 use Rattle.edit_report.specs.Messages.{message_text}
 use Rattle.edit_report.specs.ShownRows.{is_shown, is_unreadable}
 use Rattle.edit_report.specs.Table.{name_text, reason_text}
@@ -21,6 +20,7 @@ use Rattle.edit_upgrade.specs.Inputs.{below}
 use Rattle.edit_upgrade.specs.declared.decision.options.Options.{Options}
 use Rattle.edit_upgrade.specs.declared.upgrade.UpgradePlan.{UpgradePlan}
 use Rattle.edit_upgrade.specs.declared.upgrade.Warning.{Warning}
+use Rattle.plan_holds.specs.HoldNotes.{hold_notes}
 use Rattle.edit_program.specs.Absent.{absent_note}
 use Rattle.edit_program.specs.Delivery.{Delivery}
 use Rattle.edit_program.specs.HeldBackNotes.{held_back_notes}

@@ -1,3 +1,4 @@
 pub mod ApplyLemmas
+pub mod NameSetLemmas
 pub mod ReportFacts
 pub mod TableLemmas

@@ -3,4 +3,4 @@ pub mod Table
 pub mod Widths
 pub mod Applied
 pub mod Messages
-pub mod HoldNotes
+pub mod NameSets

@@ -1,7 +1,6 @@
 //! The report of an upgrade, and the writing of planned outputs to their files.
 #![tactic(auto)]
 
-mod holds;
 mod layout;
 mod lines;
 pub mod output;
@@ -10,7 +9,6 @@ pub mod shell;
 mod shows;
 mod table;
 
-pub use holds::write_holds;
 pub use output::{Output, apply};
 pub use row::{Change, Reason, Row};
 pub use shell::{

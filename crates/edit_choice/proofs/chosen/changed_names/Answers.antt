@@ -1,8 +1,9 @@
 use Rattle.std.proofs.Common.{◌∙◌, ◌||◌, ap, sym, take}
 use Rattle.std.specs.Str.{bytes_eq}
+use Rattle.edit_report.proofs.NameSetLemmas.{name_more}
+use Rattle.edit_report.specs.NameSets.{has_name}
 use Rattle.edit_choice.specs.ChosenRows.{has_change, is_change_of}
-use Rattle.edit_choice.specs.ItemLookup.{has_name}
-use Rattle.edit_choice.proofs.LookupLemmas.{any_take, any_take_none, change_of, name_more, no_change_of}
+use Rattle.edit_choice.proofs.LookupLemmas.{any_take, any_take_none, change_of, no_change_of}
 use Rattle.edit_choice.proofs.chosen.changed_names.Goals as goal
 use Rattle.edit_choice.proofs.chosen.changed_names.Goals.{then-is_some+in_ok-insert, else-is_some}
 

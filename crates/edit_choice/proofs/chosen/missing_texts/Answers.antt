@@ -1,6 +1,7 @@
 use Rattle.std.proofs.Common.{◌∙◌, ap, map, option_map, string_bytes, sym}
 use Rattle.std.proofs.lemmas.List.{map_push}
-use Rattle.edit_choice.specs.ItemLookup.{has_name, missing_by}
+use Rattle.edit_report.specs.NameSets.{has_name}
+use Rattle.edit_choice.specs.ItemLookup.{missing_by}
 use Rattle.edit_choice.proofs.ChoiceLemmas.{texts_more, texts_same}
 use Rattle.edit_choice.proofs.chosen.missing_texts.Goals as goal
 use Rattle.edit_choice.proofs.chosen.missing_texts.Goals.{in-Some+in_ok-push, in_default}

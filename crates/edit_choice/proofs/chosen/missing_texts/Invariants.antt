@@ -1,6 +1,7 @@
 use Rattle.std.proofs.Common.{◌≡◌, map, string_bytes, take}
 use Rattle.std.specs.List.{filter_map}
-use Rattle.edit_choice.specs.ItemLookup.{has_name, missing_by}
+use Rattle.edit_report.specs.NameSets.{has_name}
+use Rattle.edit_choice.specs.ItemLookup.{missing_by}
 use Rattle.edit_choice.proofs.chosen.missing_texts.Given as goal
 
 -- the texts of the items so far

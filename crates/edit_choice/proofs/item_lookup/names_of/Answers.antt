@@ -1,8 +1,10 @@
 use Rattle.std.proofs.Common.{◌∙◌, ◌||◌, ap, refl, sym, take}
 use Rattle.std.specs.List.{list_any}
 use Rattle.std.specs.Str.{bytes_eq}
-use Rattle.edit_choice.specs.ItemLookup.{has_name, is_name_of}
-use Rattle.edit_choice.proofs.LookupLemmas.{any_take, any_take_none, name_more}
+use Rattle.edit_report.proofs.NameSetLemmas.{name_more}
+use Rattle.edit_report.specs.NameSets.{has_name}
+use Rattle.edit_choice.specs.ItemLookup.{is_name_of}
+use Rattle.edit_choice.proofs.LookupLemmas.{any_take, any_take_none}
 use Rattle.edit_choice.proofs.item_lookup.names_of.Goals as goal
 use Rattle.edit_choice.proofs.item_lookup.names_of.Goals.{in-Name+in_ok-insert, in_default}
 

@@ -2,7 +2,7 @@ use Rattle.std.proofs.Common.{subst}
 use Rattle.std.proofs.KnownBytes.{Appends-trans}
 use Rattle.std.proofs.lemmas.Result.{on_ok_weaker}
 use Rattle.std.specs.Io.KnownBytes.{Appends}
-use Rattle.edit_report.specs.HoldNotes.{hold_notes}
+use Rattle.plan_holds.specs.HoldNotes.{hold_notes}
 use Rattle.edit_program.proofs.upgrade_output.plan_execution.print_end.Goals as goal
 
 pub returns-clause-text : goal.returns-clause-text

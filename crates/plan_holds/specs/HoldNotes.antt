@@ -23,11 +23,15 @@ hold_text c hold =
 abbrev pub has_row : List ℕ → List Row → Bool
 has_row name rows = list_any (λ r. bytes_eq (string_bytes r.name) name) rows
 
+-- the note on a crate, where it is held and a test holds of its name (own)
+abbrev pub note_where : (List ℕ → Bool) → CratePolicy → List ℕ
+note_where test c =
+    option_map_or (λ hold. if test (string_bytes c.name)
+    then message_text false (codes "note") (hold_text c hold) else []) c.hold []
+
 -- the note on a crate, where it is held and has one of these rows
 abbrev pub hold_note : List Row → CratePolicy → List ℕ
-hold_note rows c =
-    option_map_or (λ hold. if has_row (string_bytes c.name) rows
-    then message_text false (codes "note") (hold_text c hold) else []) c.hold []
+hold_note rows c = note_where (λ name. has_row name rows) c
 
 -- the notes on the crates that are held and have one of these rows
 abbrev pub hold_notes : List Row → List CratePolicy → List ℕ

@@ -3,13 +3,15 @@ ghost use Rattle.std.specs.Prelude.{◌≡◌, ◌⊎◌, IfErr, IfOk, OnOk, str
 ghost use Rattle.std.specs.Io.KnownBytes.{Appends};
 ghost use Rattle.edit_base.specs.Errors.{IsMemory};
 ghost use Rattle.edit_base.specs.declared.errors.Error.TheVariants.{Output};
-ghost use Rattle.edit_report.specs.HoldNotes.{has_row, hold_note, hold_notes, hold_text};
+ghost use Rattle.edit_report.specs.NameSets.{has_name};
+ghost use Rattle.plan_holds.specs.HoldNotes.{hold_notes, hold_text, note_where};
+ghost use Rattle.plan_holds.specs.RowNames.{AreRowNames};
 
-use crate::row::Row;
-use crate::shell::shell_note;
 use edit_base::CargoResult;
 use edit_policy::{CratePolicy, Hold};
+use edit_report::{Row, shell_note};
 use std::alloc::{AllocError, Global};
+use std::collections::BTreeSet;
 use std::io;
 
 /// The note on a crate that is held at a requirement, with the reason, where one is given.
@@ -27,28 +29,32 @@ fn hold_text(alloc: Global, held: &CratePolicy, hold: &Hold) -> Result<String, A
     }
 }
 
-/// Whether one of the rows is that of a crate of this name.
-fn has_row(rows: &[Row], name: &str) -> bool
-    ensures { result ≡ has_row name.now rows.now }
+/// The names of the crates of the rows.
+fn row_names<'a>(alloc: Global, rows: &'a [Row]) -> Result<BTreeSet<&'a str>, AllocError>
+    ensures { IfOk result (AreRowNames rows.now) }
 {
-    rows.iter().any(|row| row.name.as_str() == name)
+    let mut names = BTreeSet::new(alloc);
+    'rows: for row in rows {
+        names.insert(row.name.as_str())?;
+    }
+    Ok(names)
 }
 
-/// Writes the note on a crate, where it is held and has one of the rows.
+/// Writes the note on a crate, where it is held and its name is among those of the rows.
 fn write_hold<W: io::Write>(
     alloc: Global,
-    rows: &[Row],
+    names: &BTreeSet<&str>,
     held: &CratePolicy,
     out: &mut W,
 ) -> CargoResult<()>
     ensures text { OnOk result (Appends (W.contents out.old) (W.contents out.new)
-        (hold_note rows.now held.now)) }
+        (note_where (has_name names.now) held.now)) }
     ensures error { IfErr result (λ e. IsMemory e ⊎ (e ≡ Output)) }
 {
     let Some(hold) = &held.hold else {
         return Ok(());
     };
-    if !has_row(rows, held.name.as_str()) {
+    if !names.contains(held.name.as_str()) {
         return Ok(());
     }
     let text = hold_text(alloc, held, hold)?;
@@ -67,8 +73,12 @@ pub fn write_holds<W: io::Write>(
         (hold_notes rows.now crates.now)) }
     ensures error { IfErr result (λ e. IsMemory e ⊎ (e ≡ Output)) }
 {
+    if crates.is_empty() {
+        return Ok(());
+    }
+    let names = row_names(alloc, rows)?;
     for held in crates {
-        write_hold(alloc, rows, held, out)?;
+        write_hold(alloc, &names, held, out)?;
     }
     Ok(())
 }

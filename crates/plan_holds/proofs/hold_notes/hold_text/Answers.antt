@@ -3,8 +3,8 @@ use Rattle.std.proofs.Common.{◌≡◌, ◌∙◌, ◌++◌, List, Option, ap, 
 use Rattle.std.specs.Prelude.{String}
 use Rattle.std.specs.declared.alloc.Global.{Global}
 use Rattle.std.proofs.lemmas.Result.{IfOk-weaker}
-use Rattle.edit_report.specs.HoldNotes.{with_reason}
-use Rattle.edit_report.proofs.holds.hold_text.Goals as goal
+use Rattle.plan_holds.specs.HoldNotes.{with_reason}
+use Rattle.plan_holds.proofs.hold_notes.hold_text.Goals as goal
 
 with_parts : (s n q r name requirement reason : List ℕ)
     → s ≡ n ++ (codes " is held at " ++ (q ++ (codes ": " ++ r))) → n ≡ name → q ≡ requirement → r ≡ reason

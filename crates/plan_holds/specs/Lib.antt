@@ -1,0 +1,2 @@
+pub mod HoldNotes
+pub mod RowNames
