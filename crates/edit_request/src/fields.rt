@@ -143,14 +143,14 @@ pub(crate) fn write_message(out: &mut Writer, message: &str) -> Result<(), Alloc
 
 /// Writes a JSON value token by token; nothing of a text that is none.
 fn write_json(out: &mut Writer, text: &str, scratch: &mut Scratch) -> Result<(), AllocError> {
-    if !is_valid(text, scratch) {
+    if !is_valid(text, scratch)? {
         return Ok(());
     }
     let Ok(mut reader) = Reader::new(text, scratch) else {
         return Err(AllocError);
     };
     while let Some(token) = reader.next() {
-        if token == Token::Bad {
+        if matches!(token, Token::Bad) {
             return Ok(());
         }
         out.token(token)?;
