@@ -1,4 +1,6 @@
 pub mod GrammarLemmas
+pub mod LexemeLemmas
 pub mod MemberLoop
 pub mod PutMemberLemmas
 pub mod RefusedLemmas
+pub mod PlainRuns

@@ -2,8 +2,11 @@
 //! tree.
 #![tactic(auto)]
 
+mod lexemes;
+pub mod scanner;
 pub mod skip;
 pub mod text;
 
+pub use scanner::Scanner;
 pub use skip::skip_value;
 pub use text::{read_bool, read_optional_text, read_text};

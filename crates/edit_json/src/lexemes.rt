@@ -1,0 +1,188 @@
+//! Takes one token off the front of a JSON text, where the text is as registries write it: strings have no
+//! escapes, a blank stands after a comma or a colon at most, and each number is `1` or `2`.
+//!
+//! A function answers `None` at any other text, also where that is valid JSON.
+ghost use Rattle.std.specs.Prelude.{◌≡◌, ◌≤◌, ◌∷◌, true, false, length, map, Some, IfSome};
+ghost use Rattle.std.specs.List.{prefix_len};
+ghost use Rattle.std.specs.Simd.Lanes.{mask_l};
+ghost use Rattle.json.specs.Lex.{after_value, begins_colon, between, in_string, lex, punctuate, tokens};
+ghost use Rattle.json.specs.Reads.{token_of};
+ghost use Rattle.json.specs.Run.{is_plain, is_stop};
+ghost use Rattle.json.specs.Text.{content, plain};
+ghost use Rattle.json.specs.Token as spec;
+ghost use Rattle.json.specs.Word.{ends_word};
+
+use json::Token;
+use std::simd::prelude::*;
+
+/// Which of 16 bytes are a quote, a backslash or a control character.
+#[inline(always)]
+fn stops(bytes: u8x16) -> u64
+    ensures mask { result ≡ mask_l (map is_stop bytes) }
+{
+    (bytes.simd_eq(u8x16::splat(b'"'))
+        | bytes.simd_eq(u8x16::splat(b'\\'))
+        | bytes.simd_lt(u8x16::splat(0x20))).to_bitmask()
+}
+
+/// `plain_len`, byte by byte.
+fn plain_len_slowly(text: &[u8]) -> usize
+    ensures value { result ≡ prefix_len is_plain text.now }
+    ensures bound { result ≤ length text.now }
+{
+    let mut i = 0;
+    while i < text.len() && text[i] != b'"' && text[i] != b'\\' && text[i] >= 0x20 {
+        i += 1;
+    }
+    i
+}
+
+/// How many bytes stand before the first quote, backslash or control character.
+#[inline(always)]
+fn plain_len(text: &[u8]) -> usize
+    ensures value { result ≡ prefix_len is_plain text.now }
+    ensures bound { result ≤ length text.now }
+{
+    let mut i = 0;
+    while text.len() - i >= 16 {
+        let found = stops(u8x16::from_slice(&text[i..]));
+        if found != 0 {
+            return i + found.trailing_zeros() as usize;
+        }
+        i += 16;
+    }
+    i + plain_len_slowly(&text[i..])
+}
+
+/// The content of a string whose opening quote stands before the text, and what follows the closing quote.
+#[inline(always)]
+fn split_string(text: &[u8]) -> Option<(&[u8], &[u8])>
+    ensures content { IfSome result (λ p. content plain text.now ≡ Some p.0.now) }
+    ensures rest { IfSome result (λ p. lex in_string text.now ≡ lex between p.1.now) }
+{
+    let len = plain_len(text);
+    if len == text.len() || text[len] != b'"' {
+        return None;
+    }
+    Some((&text[..len], &text[len + 1..]))
+}
+
+/// What follows the blanks at the front.
+#[inline(always)]
+fn skip_blanks(text: &[u8]) -> &[u8]
+    ensures same { lex between result.now ≡ lex between text.now }
+{
+    let mut rest = text;
+    while let [b' ', others @ ..] = rest {
+        rest = others;
+    }
+    rest
+}
+
+/// What follows a value: behind a comma a string, an array or an object, else a closing bracket or nothing.
+#[inline(always)]
+fn split_value(text: &[u8]) -> Option<&[u8]>
+    ensures tokens { IfSome result
+        (λ rest. punctuate after_value (lex between text.now) ≡ tokens rest.now) }
+    ensures delimited { IfSome result (λ _. ends_word text.now ≡ true) }
+    ensures no_key { IfSome result (λ _. begins_colon (lex between text.now) ≡ false) }
+{
+    match text {
+        [] => Some(text),
+        [b',', others @ ..] => {
+            let rest = skip_blanks(others);
+            match rest {
+                [b'"' | b'{' | b'[', ..] => Some(rest),
+                _ => None,
+            }
+        }
+        [b']' | b'}', ..] => Some(text),
+        _ => None,
+    }
+}
+
+/// A key and its colon, and what follows them.
+#[inline(always)]
+pub(crate) fn split_key(text: &[u8]) -> Option<(&[u8], &[u8])>
+    ensures tokens { IfSome result (λ p. tokens text.now ≡ spec.key p.0.now ∷ tokens p.1.now) }
+{
+    let [b'"', others @ ..] = text else {
+        return None;
+    };
+    let (key, rest) = split_string(others)?;
+    match rest {
+        [b':', others @ ..] => Some((key, skip_blanks(others))),
+        _ => None,
+    }
+}
+
+/// A string that is no key, and what follows it.
+#[inline(always)]
+pub(crate) fn split_text(text: &[u8]) -> Option<(&[u8], &[u8])>
+    ensures tokens { IfSome result (λ p. tokens text.now ≡ spec.string p.0.now ∷ tokens p.1.now) }
+{
+    let [b'"', others @ ..] = text else {
+        return None;
+    };
+    let (content, rest) = split_string(others)?;
+    Some((content, split_value(rest)?))
+}
+
+/// `true`, `false`, `null`, `1` or `2`, and what follows it.
+#[inline(always)]
+pub(crate) fn split_word<'a>(text: &'a [u8]) -> Option<(Token<'a>, &'a [u8])>
+    ensures tokens { IfSome result (λ p. tokens text.now ≡ token_of p.0 ∷ tokens p.1.now) }
+{
+    match text {
+        [b't', b'r', b'u', b'e', rest @ ..] => Some((Token::Bool(true), split_value(rest)?)),
+        [b'f', b'a', b'l', b's', b'e', rest @ ..] => Some((Token::Bool(false), split_value(rest)?)),
+        [b'n', b'u', b'l', b'l', rest @ ..] => Some((Token::Null, split_value(rest)?)),
+        [b'1', rest @ ..] => Some((Token::Number("1"), split_value(rest)?)),
+        [b'2', rest @ ..] => Some((Token::Number("2"), split_value(rest)?)),
+        _ => None,
+    }
+}
+
+/// What follows the brace that closes an object.
+#[inline(always)]
+pub(crate) fn split_end_object(text: &[u8]) -> Option<&[u8]>
+    ensures tokens { IfSome result (λ rest. tokens text.now ≡ spec.end_object ∷ tokens rest.now) }
+{
+    match text {
+        [b'}', rest @ ..] => split_value(rest),
+        _ => None,
+    }
+}
+
+/// What follows the bracket that closes an array.
+#[inline(always)]
+pub(crate) fn split_end_array(text: &[u8]) -> Option<&[u8]>
+    ensures tokens { IfSome result (λ rest. tokens text.now ≡ spec.end_array ∷ tokens rest.now) }
+{
+    match text {
+        [b']', rest @ ..] => split_value(rest),
+        _ => None,
+    }
+}
+
+/// What follows the brace that opens an object.
+#[inline(always)]
+pub(crate) fn split_begin_object(text: &[u8]) -> Option<&[u8]>
+    ensures tokens { IfSome result (λ rest. tokens text.now ≡ spec.begin_object ∷ tokens rest.now) }
+{
+    match text {
+        [b'{', rest @ ..] => Some(rest),
+        _ => None,
+    }
+}
+
+/// What follows the bracket that opens an array.
+#[inline(always)]
+pub(crate) fn split_begin_array(text: &[u8]) -> Option<&[u8]>
+    ensures tokens { IfSome result (λ rest. tokens text.now ≡ spec.begin_array ∷ tokens rest.now) }
+{
+    match text {
+        [b'[', rest @ ..] => Some(rest),
+        _ => None,
+    }
+}
