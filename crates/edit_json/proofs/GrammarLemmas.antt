@@ -139,3 +139,7 @@ pub whole_refused : (o : Option (json.Json × List Token)) → converted of_json
 whole_refused None e = refl
 whole_refused (Some (j, [])) e = refused [] (of_json j) e
 whole_refused (Some (j, t ∷ r)) e = refl
+
+pub mapped_twice : {A B C : Type 0} (f : B → C) (g : A → B) (o : Option (A × List Token)) → parse_map f (parse_map g o) ≡ parse_map (λ a. f (g a)) o
+mapped_twice f g None = refl
+mapped_twice f g (Some p) = refl

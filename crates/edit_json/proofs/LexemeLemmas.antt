@@ -170,3 +170,10 @@ pub at_comma : (t r : List ℕ) → 1 ≤ length t → get_or t 0 0 ≡ 44 → l
     → (get_or r 0 0 ≡ 34) ⊎ ((get_or r 0 0 ≡ 123) ⊎ (get_or r 0 0 ≡ 91)) → Follows t r
 at_comma t r some e same begins h =
     subst (λ x. Follows x r) (sym (one_byte t 44 some e)) (comma_at (behind 1 t) r (ap (punctuate after_comma) (sym same) ∙ may_follow r begins h))
+
+-- ---- no token
+
+pub tokens_empty : (t : List ℕ) → length t ≡ 0 → tokens t ≡ []
+unfolding lex punctuate
+tokens_empty [] e = refl
+tokens_empty (x ∷ xs) e = let never : ⊥ = omega arith in absurd never

@@ -1,6 +1,7 @@
 pub mod GrammarLemmas
 pub mod LexemeLemmas
 pub mod MemberLoop
+pub mod PlainRuns
 pub mod PutMemberLemmas
 pub mod RefusedLemmas
-pub mod PlainRuns
+pub mod ValueLemmas

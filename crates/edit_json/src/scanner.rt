@@ -1,13 +1,16 @@
-//! Reads JSON that is as registries write it, without finding all its tokens first as `json::Reader` does.
+//! Reads JSON that is written as registries write it, in one pass over its bytes: `json::Reader` finds the
+//! places of all tokens first.
 //!
-//! Each function answers `None` at any other text, also where that is valid JSON: its caller then begins
+//! Each function answers `None` at any other text, also where that is valid JSON. Its caller then begins
 //! again with a `json::Reader`.
-ghost use Rattle.std.specs.Prelude.{◌≡◌, ℕ, ◌<◌, [], ◌∷◌, length, IfSome, MatchOption, OnTrue, Some, option_map};
-ghost use Rattle.json.specs.Json.{read_key};
+ghost use Rattle.std.specs.Prelude.{◌≡◌, ℕ, ◌<◌, [], ◌∷◌, length, IfSome, MatchOption, Some, option_map};
+ghost use Rattle.std.specs.Bool.{MatchBool, OnTrue};
+ghost use Rattle.json.specs.Json.{after_end_array, read_key};
 ghost use Rattle.json.specs.Lex.{tokens};
+ghost use Rattle.json.specs.Reads.{token_of};
 ghost use Rattle.json.specs.Token as spec;
-ghost use Rattle.serde_json.specs.Data.{Data, boolean, null, string};
-ghost use Rattle.edit_json.specs.Reads.{ReadsValue};
+ghost use Rattle.serde_json.specs.Data.{Data, Items, Members, boolean, null, string};
+ghost use Rattle.edit_json.specs.Reads.{ReadsItems, ReadsMembers, ReadsValue};
 
 use crate::lexemes::{
     split_begin_array, split_begin_object, split_end_array, split_end_object, split_key, split_text,
@@ -44,10 +47,20 @@ impl<'a> Scanner<'a> {
     }
 
     /// Whether nothing is left.
+    #[inline(always)]
     pub fn is_at_end(&self) -> bool
         ensures end { OnTrue result (self.now ≡ []) }
     {
         self.rest.is_empty()
+    }
+
+    /// The first byte, or 0 at the end.
+    #[inline(always)]
+    fn first(&self) -> u8 {
+        match self.rest {
+            [byte, ..] => *byte,
+            [] => 0,
+        }
     }
 
     /// Reads the brace that opens an object.
@@ -57,6 +70,30 @@ impl<'a> Scanner<'a> {
     {
         self.rest = split_begin_object(self.rest)?;
         Some(())
+    }
+
+    /// Reads the bracket that opens an array.
+    #[inline(always)]
+    fn begin_array(&mut self) -> Option<()>
+        ensures token { IfSome result (λ _. self.old ≡ spec.begin_array ∷ self.new) }
+    {
+        self.rest = split_begin_array(self.rest)?;
+        Some(())
+    }
+
+    /// Takes the bracket that closes an array, if it is next.
+    #[inline(always)]
+    fn take_end_array(&mut self) -> bool
+        ensures end { MatchBool result (after_end_array self.old ≡ Some self.new)
+            (self.new ≡ self.old) }
+    {
+        match split_end_array(self.rest) {
+            Some(rest) => {
+                self.rest = rest;
+                true
+            }
+            None => false,
+        }
     }
 
     /// Reads a key with its colon; none at the brace that closes the object.
@@ -72,5 +109,137 @@ impl<'a> Scanner<'a> {
         let (key, rest) = split_key(self.rest)?;
         self.rest = rest;
         Some(Some(key))
+    }
+
+    /// Reads a string, which is no key.
+    #[inline(always)]
+    fn text(&mut self) -> Option<&'a [u8]>
+        ensures token { IfSome result (λ text. self.old ≡ spec.string text.now ∷ self.new) }
+    {
+        let (text, rest) = split_text(self.rest)?;
+        self.rest = rest;
+        Some(text)
+    }
+
+    /// Reads `true`, `false`, `null`, `1` or `2`.
+    #[inline(always)]
+    fn word(&mut self) -> Option<Token<'a>>
+        ensures token { IfSome result (λ token. self.old ≡ token_of token ∷ self.new) }
+    {
+        let (token, rest) = split_word(self.rest)?;
+        self.rest = rest;
+        Some(token)
+    }
+
+    /// Reads a string.
+    #[inline(always)]
+    pub fn read_text(&mut self) -> Option<&'a str>
+        ensures shorter { IfSome result (λ _. length self.new < length self.old) }
+        ensures value { IfSome result
+            (λ s. (depth : ℕ) → ReadsValue depth self.old (string s.now) self.new) }
+    {
+        let text = self.text()?;
+        match std::str::from_utf8(text) {
+            Ok(text) => Some(text),
+            Err(_) => None,
+        }
+    }
+
+    /// Reads `true` or `false`.
+    #[inline(always)]
+    pub fn read_bool(&mut self) -> Option<bool>
+        ensures shorter { IfSome result (λ _. length self.new < length self.old) }
+        ensures value { IfSome result
+            (λ b. (depth : ℕ) → ReadsValue depth self.old (boolean b) self.new) }
+    {
+        match self.word() {
+            Some(Token::Bool(truth)) => Some(truth),
+            _ => None,
+        }
+    }
+
+    /// Reads a string or `null`.
+    #[inline(always)]
+    pub fn read_optional_text(&mut self) -> Option<Option<&'a str>>
+        ensures shorter { IfSome result (λ _. length self.new < length self.old) }
+        ensures value { IfSome result (λ o. (depth : ℕ) → MatchOption o
+            (ReadsValue depth self.old null self.new)
+            (λ s. ReadsValue depth self.old (string s.now) self.new)) }
+    {
+        if self.first() == b'"' {
+            let text = self.read_text()?;
+            return Some(Some(text));
+        }
+        match self.word() {
+            Some(Token::Null) => Some(None),
+            _ => None,
+        }
+    }
+
+    /// Skips `true`, `false`, `null`, `1` or `2`.
+    #[inline(always)]
+    fn skip_word(&mut self) -> Option<()>
+        ensures shorter { IfSome result (λ _. length self.new < length self.old) }
+        ensures value { IfSome result
+            (λ _. (depth : ℕ) → (d : Data) × ReadsValue depth self.old d self.new) }
+    {
+        match self.word() {
+            Some(Token::Bool(_b)) => Some(()),
+            Some(Token::Null) => Some(()),
+            Some(Token::Number("1" | "2")) => Some(()),
+            _ => None,
+        }
+    }
+
+    /// Skips a value; `None` also where it is nested deeper than `depth`.
+    #[cycle(skip_value)]
+    #[inline(always)]
+    pub fn skip_value(&mut self, depth: usize) -> Option<()>
+        ensures shorter { IfSome result (λ _. length self.new < length self.old) }
+        ensures value { IfSome result (λ _. (d : Data) × ReadsValue depth self.old d self.new) }
+    {
+        match self.first() {
+            b'"' => {
+                self.text()?;
+                Some(())
+            }
+            b'[' => self.skip_array(depth),
+            b'{' => self.skip_object(depth),
+            _ => self.skip_word(),
+        }
+    }
+
+    /// Skips an array, each element as `skip_value` does.
+    #[cycle(skip_value)]
+    #[inline(never)]
+    fn skip_array(&mut self, depth: usize) -> Option<()>
+        ensures shorter { IfSome result (λ _. length self.new < length self.old) }
+        ensures value { IfSome result (λ _. (d : Data) × ReadsValue depth self.old d self.new) }
+    {
+        if depth == 0 {
+            return None;
+        }
+        self.begin_array()?;
+        while !self.take_end_array() {
+            self.skip_value(depth - 1)?;
+        }
+        Some(())
+    }
+
+    /// Skips an object, each value as `skip_value` does.
+    #[cycle(skip_value)]
+    #[inline(never)]
+    fn skip_object(&mut self, depth: usize) -> Option<()>
+        ensures shorter { IfSome result (λ _. length self.new < length self.old) }
+        ensures value { IfSome result (λ _. (d : Data) × ReadsValue depth self.old d self.new) }
+    {
+        if depth == 0 {
+            return None;
+        }
+        self.begin_object()?;
+        while let Some(_) = self.next_key()? {
+            self.skip_value(depth - 1)?;
+        }
+        Some(())
     }
 }

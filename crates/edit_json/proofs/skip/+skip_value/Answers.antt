@@ -1,21 +1,16 @@
 use Rattle.std.proofs.Common.{◌≡◌, ◌-◌, ◌<◌, ◌⊎◌, inl, inr, [], ◌∷◌, ℕ, List, length, Option, Some, None, sym, refl, ap, subst, true≢false, ◌∙◌, arith}
 use Rattle.std.specs.Prelude.{IfSome, ⊤}
-use Rattle.std.specs.Fmt.{decimal, digits}
 use Rattle.json.specs.Token.{Token}
 use Rattle.json.specs.Json.{parse_map, after_end_array, read_key, items, members, value}
 use Rattle.json.proofs.Grammar.{value_is, value-begin_array, value-begin_object}
-use Rattle.serde_json.specs.Data.{Num, unsigned, null, boolean, number, string, array, object, item, no_items}
-use Rattle.serde_json.specs.Read.{of_json, of_items, converted, number_of}
-use Rattle.serde_json.proofs.Numbers.{number_of-decimal}
-use Rattle.edit_json.proofs.GrammarLemmas.{converted-array, converted-object, converted_some, item_read, items_over, none_before}
+use Rattle.serde_json.specs.Data.{null, boolean, number, string, array, object, item, no_items}
+use Rattle.serde_json.specs.Read.{of_json, of_items, converted}
+use Rattle.edit_json.proofs.GrammarLemmas.{converted-array, converted-object, converted_some, item_read, items_over, mapped_twice, none_before}
 use Rattle.edit_json.proofs.MemberLoop.{begin, member-more, over}
 use Rattle.edit_json.proofs.RefusedLemmas.{all_items, all_members, array_refused, item_refused, member_refused, no_key, no_value, object_refused, other_items, other_members, other_number, too_deep_array, too_deep_object}
+use Rattle.edit_json.proofs.ValueLemmas.{plain_number}
 use Rattle.edit_json.specs.SmallNumbers.{ReadsNoValue}
 use Rattle.edit_json.proofs.skip.+skip_value.Goals as goal
-
-both : {A B C : Type 0} (f : B → C) (g : A → B) (o : Option (A × List Token)) → parse_map f (parse_map g o) ≡ parse_map (λ a. f (g a)) o
-both f g None = refl
-both f g (Some p) = refl
 
 lift : {A : Type 0} {P Q : A → Type 0} (r : Option A) → ((a : A) → P a → Q a) → IfSome r P → IfSome r Q
 lift None f x = x
@@ -35,18 +30,6 @@ pub skip_value-returns-in-Some-Null-clause-value : goal.skip_value-returns-in-So
 skip_value-returns-in-Some-Null-clause-value t c =
     let is : c.args.reader.now ≡ Token.null ∷ c.next.new.self = grind arith in
     (null, ap (converted of_json) (ap (value c.args.depth) is ∙ value_is c.args.depth _))
-
-one : decimal 1 ≡ 49 ∷ []
-unfolding digits
-one = refl
-
-two : decimal 2 ≡ 50 ∷ []
-unfolding digits
-two = refl
-
-plain_number : (s : List ℕ) → (s ≡ 49 ∷ []) ⊎ (s ≡ 50 ∷ []) → (n : Num) × (number_of s ≡ Some n)
-plain_number s (inl e) = (unsigned 1, ap number_of (e ∙ sym one) ∙ number_of-decimal 1 (omega arith))
-plain_number s (inr e) = (unsigned 2, ap number_of (e ∙ sym two) ∙ number_of-decimal 2 (omega arith))
 
 pub skip_value-returns-then-is_small_number-clause-value : goal.skip_value-returns-then-is_small_number-clause-value
 skip_value-returns-then-is_small_number-clause-value t c =
@@ -99,7 +82,7 @@ skip_items-loop-reader-preserved t c =
       n - 1,
       omega (arith, l.invariant.1),
       (λ x. f (item d x)),
-      l.invariant.3 ∙ ap (parse_map f) turn ∙ both f (item d) _,
+      l.invariant.3 ∙ ap (parse_map f) turn ∙ mapped_twice f (item d) _,
       omega (arith, l.invariant.4),
       other_items c.args.depth c.args.reader.now l.reader r j.0 l.invariant.5 going.0 j.1,
     )
