@@ -3,6 +3,7 @@ pub mod ChainLemmas
 pub mod ConfigurationLemmas
 pub mod DatedLemmas
 pub mod DefinitionLemmas
+pub mod FieldLemmas
 pub mod FileLemmas
 pub mod FolderLemmas
 pub mod FolderOutcomes
