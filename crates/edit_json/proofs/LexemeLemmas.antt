@@ -4,11 +4,11 @@ use Rattle.std.proofs.Math.Seq.{drop-cons}
 use Rattle.std.proofs.lemmas.List.{take_rest, take-append-drop, length-take-le}
 use Rattle.std.proofs.lemmas.List.Sums.{prefix_len_passes}
 use Rattle.std.specs.List.{prefix_len}
-use Rattle.json.specs.Token.{Token, begin_object, end_object, begin_array, end_array, key, string, number, boolean, null, bad}
+use Rattle.json.specs.Token.{begin_object, end_object, begin_array, end_array, key, string, number, boolean, null}
 use Rattle.json.specs.Text.{content, plain}
-use Rattle.json.specs.Word.{after_number, ends_word, head, word}
-use Rattle.json.specs.Lex.{Lexeme, token, comma, colon, Mode, between, in_word, in_string, lex, string_token, Place, fresh, after_value, after_comma, after_key, begins_colon, punctuate, tokens}
-use Rattle.json.specs.Print.{IsNumber, escape}
+use Rattle.json.specs.Word.{after_number, ends_word, word}
+use Rattle.json.specs.Lex.{Lexeme, token, between, in_string, lex, string_token, fresh, after_value, after_comma, begins_colon, punctuate, tokens}
+use Rattle.json.specs.Print.{escape}
 use Rattle.json.specs.Run.{is_plain}
 use Rattle.json.specs.Written.{PlainBetween}
 use Rattle.json.proofs.Printed.Numbers.{in_word-ended, lex-number}

@@ -13,8 +13,8 @@ ghost use Rattle.serde_json.specs.Data.{Data, Items, Members, boolean, null, str
 ghost use Rattle.edit_json.specs.Reads.{ReadsItems, ReadsMembers, ReadsValue};
 
 use crate::lexemes::{
-    split_begin_array, split_begin_object, split_end_array, split_end_object, split_key, split_text,
-    split_word,
+    split_begin_array, split_begin_object, split_end_array, split_end_object, split_key,
+    split_text, split_word,
 };
 use json::Token;
 use std::marker::Model;

@@ -10,6 +10,7 @@ pub mod index_lines;
 mod index_path;
 mod index_text;
 mod line_reader;
+mod line_scanner;
 pub mod local_index;
 pub mod published;
 mod published_lines;

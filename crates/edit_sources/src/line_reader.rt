@@ -1,14 +1,15 @@
-//! Parses an index line token by token, without building a tree of its members.
+//! Parses an index line without building a tree of its members: by the scanner, or else token by token.
 //!
-//! A line that this reader does not accept is parsed again by way of a tree; only that decides whether the
-//! line is malformed.
+//! A line that neither accepts is parsed again by way of a tree; only that decides whether the line is
+//! malformed.
 ghost use Rattle.std.specs.Prelude.{◌≡◌, ◌<◌, length, IfSome, Some};
 ghost use Rattle.edit_json.specs.Reads.{ReadsMembers, ReadsValue};
 ghost use Rattle.edit_sources.specs.LineFields.{HasFields};
 ghost use Rattle.serde_json.specs.Data.{Data, Members, object, put};
 ghost use Rattle.serde_json.specs.Read.{read};
 
-use edit_json::{Scanner, read_bool, read_optional_text, read_text, skip_value};
+use crate::line_scanner::scan_fields;
+use edit_json::{read_bool, read_optional_text, read_text, skip_value};
 use json::{Reader, Scratch, Token};
 
 /// The members of an index line that an entry is made of. Of a repeated key the last value counts.
@@ -84,78 +85,6 @@ fn read_members<'a>(reader: &mut Reader<'a>) -> Option<Fields<'a>>
         fields = read_member(reader, key, fields)?;
     }
     Some(fields)
-}
-
-/// Reads the value of a key into its field, or skips it.
-#[inline(always)]
-fn scan_member<'a>(scanner: &mut Scanner<'a>, key: &[u8], fields: Fields<'a>) -> Option<Fields<'a>>
-    ensures shorter { IfSome result (λ _. length scanner.new < length scanner.old) }
-    ensures value { IfSome result (λ f. (d : Data)
-        × ReadsValue 126 scanner.old d scanner.new
-        × ((ms : Members) → HasFields fields.entry ms → HasFields f (put key.now d ms))) }
-{
-    if key == b"name".as_slice() {
-        let text = scanner.read_text()?;
-        return Some(Fields {
-            name: Some(text),
-            ..fields
-        });
-    }
-    if key == b"vers".as_slice() {
-        let text = scanner.read_text()?;
-        return Some(Fields {
-            version: Some(text),
-            ..fields
-        });
-    }
-    if key == b"yanked".as_slice() {
-        let truth = scanner.read_bool()?;
-        return Some(Fields {
-            yanked: truth,
-            ..fields
-        });
-    }
-    if key == b"rust_version".as_slice() {
-        let text = scanner.read_optional_text()?;
-        return Some(Fields {
-            rust_version: text,
-            ..fields
-        });
-    }
-    scanner.skip_value(126)?;
-    Some(fields)
-}
-
-/// Reads the members of a line after its opening brace, up to and including the closing one.
-fn scan_members<'a>(scanner: &mut Scanner<'a>) -> Option<Fields<'a>>
-    ensures value { IfSome result (λ f. (ms : Members) × ReadsMembers 126 scanner.old ms scanner.new
-        × HasFields f ms) }
-{
-    let mut fields = Fields {
-        name: None,
-        version: None,
-        yanked: false,
-        rust_version: None,
-    };
-    while let Some(key) = scanner.next_key()? {
-        fields = scan_member(scanner, key, fields)?;
-    }
-    Some(fields)
-}
-
-/// Parses a line that is written as registries write it; `None` at any other.
-fn scan_fields<'a>(text: &'a str) -> Option<Fields<'a>>
-    ensures value { IfSome result (λ f. (ms : Members)
-        × (read text.now ≡ Some (object ms)) × HasFields f ms) }
-{
-    let mut scanner = Scanner::new(text);
-    scanner.begin_object()?;
-    let fields = scan_members(&mut scanner)?;
-    if scanner.is_at_end() {
-        Some(fields)
-    } else {
-        None
-    }
 }
 
 /// Parses a line; `None` where it has to be parsed by way of a tree.

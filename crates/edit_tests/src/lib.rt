@@ -28,6 +28,8 @@ mod reports;
 #[cfg(test)]
 mod rows;
 #[cfg(test)]
+mod scanner;
+#[cfg(test)]
 mod sources;
 #[cfg(test)]
 mod versions;

@@ -1,6 +1,6 @@
 use Rattle.std.proofs.Common.{sym, ap, ◌∙◌, arith}
 use lib.Count.{count_trailing_zeros}
-use Rattle.json.specs.Run.{is_stop, is_plain}
+use Rattle.json.specs.Run.{is_plain}
 use Rattle.edit_json.proofs.PlainRuns.{run_bound, plain_through, plain_stops}
 use Rattle.edit_json.proofs.lexemes.plain_len.Goals as goal
 
@@ -20,4 +20,3 @@ pub loop-i-preserved : goal.loop-i-preserved
 loop-i-preserved c =
     let run = plain_through c.args.text.now c.loop-i.i 16 (omega arith) (omega (arith, c.stops-found.ensures.mask)) in
     (omega (arith, run, c.loop-i.invariant.0), omega arith)
-

@@ -1,4 +1,4 @@
-use Rattle.std.proofs.Common.{◌≡◌, length, get_or, arith, sym, ap, ◌∙◌}
+use Rattle.std.proofs.Common.{◌≡◌, get_or, arith, sym, ap, ◌∙◌}
 use Rattle.json.specs.Lex.{between, lex}
 use Rattle.edit_json.proofs.LexemeLemmas.{one_byte, behind, lex_blank}
 use Rattle.edit_json.proofs.lexemes.skip_blanks.Goals as goal

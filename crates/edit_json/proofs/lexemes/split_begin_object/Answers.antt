@@ -1,4 +1,4 @@
-use Rattle.std.proofs.Common.{◌≡◌, ◌∷◌, get_or, ap, ◌∙◌, arith}
+use Rattle.std.proofs.Common.{◌≡◌, get_or, ap, ◌∙◌, arith}
 use Rattle.json.specs.Lex.{tokens}
 use Rattle.edit_json.proofs.LexemeLemmas.{behind, one_byte, tokens_begin_object}
 use Rattle.edit_json.proofs.lexemes.split_begin_object.Goals as goal

@@ -13,8 +13,8 @@ returns-in-58 c =
     let colon : get_or r 0 0 ≡ 58 = grind arith in
     record {
       tokens =
-        ap tokens (one_byte t 34 c.in-34.len_at_least quote)
-        ∙ tokens_key (behind 1 t) k (behind 1 r) c.in_ok-key.ensures.content
+          ap tokens (one_byte t 34 c.in-34.len_at_least quote)
+          ∙ tokens_key (behind 1 t) k (behind 1 r) c.in_ok-key.ensures.content
           (c.in_ok-key.ensures.rest ∙ ap (lex between) (one_byte r 58 c.in-58.len_at_least colon))
-        ∙ ap (λ ls. key k ∷ punctuate fresh ls) (sym c.skip_blanks.ensures.same);
+          ∙ ap (λ ls. key k ∷ punctuate fresh ls) (sym c.skip_blanks.ensures.same);
     }

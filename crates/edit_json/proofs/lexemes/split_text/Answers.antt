@@ -1,5 +1,5 @@
-use Rattle.std.proofs.Common.{◌≡◌, ◌∷◌, get_or, sym, ap, ap₂, ◌∙◌, arith}
-use Rattle.json.specs.Lex.{between, fresh, lex, punctuate, tokens}
+use Rattle.std.proofs.Common.{◌≡◌, ◌∷◌, get_or, ap, ◌∙◌, arith}
+use Rattle.json.specs.Lex.{tokens}
 use Rattle.json.specs.Token.{string}
 use Rattle.edit_json.proofs.LexemeLemmas.{behind, one_byte, tokens_string}
 use Rattle.edit_json.proofs.lexemes.split_text.Goals as goal
@@ -13,7 +13,7 @@ returns c =
     let done = c.in_ok-split_value.ensures in
     record {
       tokens =
-        ap tokens (one_byte t 34 c.in-34.len_at_least quote)
-        ∙ tokens_string (behind 1 t) s r c.in_ok-content.ensures.content c.in_ok-content.ensures.rest done.no_key
-        ∙ ap (λ ts. string s ∷ ts) done.tokens;
+          ap tokens (one_byte t 34 c.in-34.len_at_least quote)
+          ∙ tokens_string (behind 1 t) s r c.in_ok-content.ensures.content c.in_ok-content.ensures.rest done.no_key
+          ∙ ap (λ ts. string s ∷ ts) done.tokens;
     }

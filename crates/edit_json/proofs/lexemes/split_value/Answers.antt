@@ -1,4 +1,4 @@
-use Rattle.std.proofs.Common.{◌≡◌, ◌⊎◌, length, get_or, sym, ap, ◌∙◌, arith}
+use Rattle.std.proofs.Common.{◌≡◌, ◌⊎◌, get_or, arith}
 use Rattle.edit_json.proofs.LexemeLemmas.{at_closing, at_comma, at_the_end}
 use Rattle.edit_json.proofs.lexemes.split_value.Goals as goal
 

@@ -1,4 +1,4 @@
-use Rattle.std.proofs.Common.{◌≡◌, ◌-◌, ◌<◌, ◌⊎◌, inl, inr, [], ◌∷◌, ℕ, List, length, Option, Some, None, sym, refl, ap, subst, true≢false, ◌∙◌, arith}
+use Rattle.std.proofs.Common.{◌≡◌, ◌-◌, ◌<◌, [], ◌∷◌, length, Option, Some, None, sym, refl, ap, subst, true≢false, ◌∙◌, arith}
 use Rattle.std.specs.Prelude.{IfSome, ⊤}
 use Rattle.json.specs.Token.{Token}
 use Rattle.json.specs.Json.{parse_map, after_end_array, read_key, items, members, value}

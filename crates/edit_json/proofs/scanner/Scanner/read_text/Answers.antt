@@ -1,4 +1,4 @@
-use Rattle.std.proofs.Common.{◌≡◌, ◌∷◌, sym, ap, ◌∙◌, arith}
+use Rattle.std.proofs.Common.{◌≡◌, ◌∷◌, sym, ap, ◌∙◌}
 use Rattle.json.specs.Token.{string}
 use Rattle.edit_json.proofs.ValueLemmas.{reads_string}
 use Rattle.edit_json.proofs.scanner.Scanner.read_text.Goals as goal

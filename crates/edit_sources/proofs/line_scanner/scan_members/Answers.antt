@@ -2,12 +2,12 @@ use Rattle.std.proofs.Common.{◌≡◌, false, None, Some, refl, arith}
 use Rattle.json.specs.Json.{read_key}
 use Rattle.edit_json.proofs.MemberLoop.{begin, member-more, over}
 use Rattle.edit_sources.specs.LineFields.{HasFields}
-use Rattle.edit_sources.proofs.line_reader.scan_members.Goals as goal
+use Rattle.edit_sources.proofs.line_scanner.scan_members.Goals as goal
 
 pub loop-key-init : goal.loop-key-init
 loop-key-init c =
-    begin 126 (λ ms. HasFields (record { name = None; version = None; yanked = false; rust_version = None }) ms) c.args.scanner.now
-    (record { name = refl; version = refl; yanked = refl; rust_version = refl })
+    begin 126 (λ ms. HasFields (record { name = None; version = None; yanked = false; rust_version = None; published = None }) ms) c.args.scanner.now
+    (record { name = refl; version = refl; yanked = refl; rust_version = refl; published = refl })
 
 pub loop-key-preserved : goal.loop-key-preserved
 loop-key-preserved c =

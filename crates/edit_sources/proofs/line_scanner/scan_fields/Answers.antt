@@ -6,7 +6,7 @@ use Rattle.json.proofs.Grammar.{value-begin_object}
 use Rattle.serde_json.specs.Data.{object}
 use Rattle.serde_json.specs.Read.{of_json, converted}
 use Rattle.edit_json.proofs.GrammarLemmas.{converted-object, whole_read}
-use Rattle.edit_sources.proofs.line_reader.scan_fields.Goals as goal
+use Rattle.edit_sources.proofs.line_scanner.scan_fields.Goals as goal
 
 pub returns-then-is_at_end : goal.returns-then-is_at_end
 returns-then-is_at_end c =
