@@ -9,8 +9,8 @@ ghost use Rattle.json.specs.Json.{after_end_array, read_key};
 ghost use Rattle.json.specs.Lex.{tokens};
 ghost use Rattle.json.specs.Reads.{token_of};
 ghost use Rattle.json.specs.Token as spec;
-ghost use Rattle.serde_json.specs.Data.{Data, Items, Members, boolean, null, string};
-ghost use Rattle.edit_json.specs.Reads.{ReadsItems, ReadsMembers, ReadsValue};
+ghost use Rattle.serde_json.specs.Data.{Data, boolean, null, string};
+ghost use Rattle.edit_json.specs.Reads.{ReadsValue};
 
 use crate::lexemes::{
     split_begin_array, split_begin_object, split_end_array, split_end_object, split_key,

@@ -12,4 +12,5 @@ pub record HasFields (f : Fields) (ms : Members) : Type 0 where
   pub yanked : yanked_of (get_member (codes "yanked") ms) ≡ Some f.yanked
   pub rust_version : rust_version_of (get_member (codes "rust_version") ms)
       ≡ Some (option_map (λ s. s.now) f.rust_version)
-  pub published : option_and_then as_str (get_member (codes "pubtime") ms) ≡ option_map (λ s. s.now) f.published
+  pub published : option_and_then as_str (get_member (codes "pubtime") ms)
+      ≡ option_map (λ s. s.now) f.published
