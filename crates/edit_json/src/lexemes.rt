@@ -1,7 +1,9 @@
-//! Takes one token off the front of a JSON text, where the text is as registries write it: strings have no
-//! escapes, a blank stands after a comma or a colon at most, and each number is `1` or `2`.
+//! Takes one token off the front of a JSON text that is written as registries write it: strings have no
+//! escapes, blanks stand only behind a comma or a colon, each number is `1` or `2`, and behind a comma
+//! stands a string, an array or an object.
 //!
-//! A function answers `None` at any other text, also where that is valid JSON.
+//! A function answers `None` at any other text, also where that is valid JSON. A token is taken together
+//! with what has to stand between it and the next one: a key with its colon, a value with its comma.
 ghost use Rattle.std.specs.Prelude.{◌≡◌, ◌≤◌, ◌∷◌, true, false, length, map, Some, IfSome};
 ghost use Rattle.std.specs.List.{prefix_len};
 ghost use Rattle.std.specs.Simd.Lanes.{mask_l};
@@ -37,7 +39,7 @@ fn plain_len_slowly(text: &[u8]) -> usize
     i
 }
 
-/// How many bytes stand before the first quote, backslash or control character.
+/// How many bytes stand before the first quote, backslash or control character; all where there is none.
 #[inline(always)]
 fn plain_len(text: &[u8]) -> usize
     ensures value { result ≡ prefix_len is_plain text.now }
@@ -79,9 +81,9 @@ fn skip_blanks(text: &[u8]) -> &[u8]
     rest
 }
 
-/// What follows a value: behind a comma a string, an array or an object, else a closing bracket or nothing.
+/// Skips the comma behind a value, with blanks; a closing bracket stays, and so does the end of the text.
 #[inline(always)]
-fn split_value(text: &[u8]) -> Option<&[u8]>
+fn skip_comma(text: &[u8]) -> Option<&[u8]>
     ensures tokens { IfSome result
         (λ rest. punctuate after_value (lex between text.now) ≡ tokens rest.now) }
     ensures delimited { IfSome result (λ _. ends_word text.now ≡ true) }
@@ -125,20 +127,20 @@ pub(crate) fn split_text(text: &[u8]) -> Option<(&[u8], &[u8])>
         return None;
     };
     let (content, rest) = split_string(others)?;
-    Some((content, split_value(rest)?))
+    Some((content, skip_comma(rest)?))
 }
 
 /// `true`, `false`, `null`, `1` or `2`, and what follows it.
 #[inline(always)]
-pub(crate) fn split_word<'a>(text: &'a [u8]) -> Option<(Token<'a>, &'a [u8])>
+pub(crate) fn split_literal<'a>(text: &'a [u8]) -> Option<(Token<'a>, &'a [u8])>
     ensures tokens { IfSome result (λ p. tokens text.now ≡ token_of p.0 ∷ tokens p.1.now) }
 {
     match text {
-        [b't', b'r', b'u', b'e', rest @ ..] => Some((Token::Bool(true), split_value(rest)?)),
-        [b'f', b'a', b'l', b's', b'e', rest @ ..] => Some((Token::Bool(false), split_value(rest)?)),
-        [b'n', b'u', b'l', b'l', rest @ ..] => Some((Token::Null, split_value(rest)?)),
-        [b'1', rest @ ..] => Some((Token::Number("1"), split_value(rest)?)),
-        [b'2', rest @ ..] => Some((Token::Number("2"), split_value(rest)?)),
+        [b't', b'r', b'u', b'e', rest @ ..] => Some((Token::Bool(true), skip_comma(rest)?)),
+        [b'f', b'a', b'l', b's', b'e', rest @ ..] => Some((Token::Bool(false), skip_comma(rest)?)),
+        [b'n', b'u', b'l', b'l', rest @ ..] => Some((Token::Null, skip_comma(rest)?)),
+        [b'1', rest @ ..] => Some((Token::Number("1"), skip_comma(rest)?)),
+        [b'2', rest @ ..] => Some((Token::Number("2"), skip_comma(rest)?)),
         _ => None,
     }
 }
@@ -149,7 +151,7 @@ pub(crate) fn split_end_object(text: &[u8]) -> Option<&[u8]>
     ensures tokens { IfSome result (λ rest. tokens text.now ≡ spec.end_object ∷ tokens rest.now) }
 {
     match text {
-        [b'}', rest @ ..] => split_value(rest),
+        [b'}', rest @ ..] => skip_comma(rest),
         _ => None,
     }
 }
@@ -160,7 +162,7 @@ pub(crate) fn split_end_array(text: &[u8]) -> Option<&[u8]>
     ensures tokens { IfSome result (λ rest. tokens text.now ≡ spec.end_array ∷ tokens rest.now) }
 {
     match text {
-        [b']', rest @ ..] => split_value(rest),
+        [b']', rest @ ..] => skip_comma(rest),
         _ => None,
     }
 }

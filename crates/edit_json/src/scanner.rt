@@ -14,7 +14,7 @@ ghost use Rattle.edit_json.specs.Reads.{ReadsValue};
 
 use crate::lexemes::{
     split_begin_array, split_begin_object, split_end_array, split_end_object, split_key,
-    split_text, split_word,
+    split_literal, split_text,
 };
 use json::Token;
 use std::marker::Model;
@@ -38,6 +38,7 @@ impl<'a> Model for Scanner<'a> {
 }
 
 impl<'a> Scanner<'a> {
+    /// A scanner at the beginning of a text.
     pub fn new(text: &'a str) -> Scanner<'a>
         ensures tokens { result ≡ tokens text.now }
     {
@@ -123,10 +124,10 @@ impl<'a> Scanner<'a> {
 
     /// Reads `true`, `false`, `null`, `1` or `2`.
     #[inline(always)]
-    fn word(&mut self) -> Option<Token<'a>>
+    fn literal(&mut self) -> Option<Token<'a>>
         ensures token { IfSome result (λ token. self.old ≡ token_of token ∷ self.new) }
     {
-        let (token, rest) = split_word(self.rest)?;
+        let (token, rest) = split_literal(self.rest)?;
         self.rest = rest;
         Some(token)
     }
@@ -152,7 +153,7 @@ impl<'a> Scanner<'a> {
         ensures value { IfSome result
             (λ b. (depth : ℕ) → ReadsValue depth self.old (boolean b) self.new) }
     {
-        match self.word() {
+        match self.literal() {
             Some(Token::Bool(truth)) => Some(truth),
             _ => None,
         }
@@ -170,7 +171,7 @@ impl<'a> Scanner<'a> {
             let text = self.read_text()?;
             return Some(Some(text));
         }
-        match self.word() {
+        match self.literal() {
             Some(Token::Null) => Some(None),
             _ => None,
         }
@@ -178,12 +179,12 @@ impl<'a> Scanner<'a> {
 
     /// Skips `true`, `false`, `null`, `1` or `2`.
     #[inline(always)]
-    fn skip_word(&mut self) -> Option<()>
+    fn skip_literal(&mut self) -> Option<()>
         ensures shorter { IfSome result (λ _. length self.new < length self.old) }
         ensures value { IfSome result
             (λ _. (depth : ℕ) → (d : Data) × ReadsValue depth self.old d self.new) }
     {
-        match self.word() {
+        match self.literal() {
             Some(Token::Bool(_b)) => Some(()),
             Some(Token::Null) => Some(()),
             Some(Token::Number("1" | "2")) => Some(()),
@@ -205,7 +206,7 @@ impl<'a> Scanner<'a> {
             }
             b'[' => self.skip_array(depth),
             b'{' => self.skip_object(depth),
-            _ => self.skip_word(),
+            _ => self.skip_literal(),
         }
     }
 

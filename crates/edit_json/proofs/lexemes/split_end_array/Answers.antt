@@ -10,6 +10,6 @@ returns-in-93 c =
     let t = c.args.text.now in
     let first : get_or t 0 0 ≡ 93 = grind arith in
     record {
-      tokens = IfSome_then c.split_value.result c.split_value.ensures.tokens
+      tokens = IfSome_then c.skip_comma.result c.skip_comma.ensures.tokens
           (λ r e. ap tokens (one_byte t 93 c.in-93.len_at_least first) ∙ tokens_end_array (behind 1 t) ∙ ap (λ ts. end_array ∷ ts) e);
     }

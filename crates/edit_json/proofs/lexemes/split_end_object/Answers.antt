@@ -10,6 +10,6 @@ returns-in-125 c =
     let t = c.args.text.now in
     let first : get_or t 0 0 ≡ 125 = grind arith in
     record {
-      tokens = IfSome_then c.split_value.result c.split_value.ensures.tokens
+      tokens = IfSome_then c.skip_comma.result c.skip_comma.ensures.tokens
           (λ r e. ap tokens (one_byte t 125 c.in-125.len_at_least first) ∙ tokens_end_object (behind 1 t) ∙ ap (λ ts. end_object ∷ ts) e);
     }

@@ -10,7 +10,7 @@ returns c =
     let s = c.in_ok-content.content.now in
     let r = c.in_ok-content.rest.now in
     let quote : get_or t 0 0 ≡ 34 = grind arith in
-    let done = c.in_ok-split_value.ensures in
+    let done = c.in_ok-skip_comma.ensures in
     record {
       tokens =
           ap tokens (one_byte t 34 c.in-34.len_at_least quote)

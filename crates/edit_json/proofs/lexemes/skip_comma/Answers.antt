@@ -1,6 +1,6 @@
 use Rattle.std.proofs.Common.{◌≡◌, ◌⊎◌, get_or, arith}
 use Rattle.edit_json.proofs.LexemeLemmas.{at_closing, at_comma, at_the_end}
-use Rattle.edit_json.proofs.lexemes.split_value.Goals as goal
+use Rattle.edit_json.proofs.lexemes.skip_comma.Goals as goal
 
 pub returns-in-empty-clause-tokens : goal.returns-in-empty-clause-tokens
 returns-in-empty-clause-tokens c =
