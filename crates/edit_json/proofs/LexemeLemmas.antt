@@ -30,6 +30,10 @@ next_byte t i a within e =
     let next : i + 1 ≡ suc i = omega arith in
     drop-cons t i 0 within ∙ ap₂ (λ b k. b ∷ drop k t) e (sym next)
 
+pub two_bytes : (t : List ℕ) (a b : ℕ) → 2 ≤ length t → get_or t 0 0 ≡ a → get_or t 1 0 ≡ b → t ≡ a ∷ b ∷ behind 2 t
+two_bytes t a b some e f =
+    next_byte t 0 a (omega arith) e ∙ ap (λ r. a ∷ r) (next_byte t 1 b (omega arith) f ∙ ap (λ r. b ∷ r) (sym (take_rest t 2)))
+
 pub four_bytes : (t : List ℕ) (a b c d : ℕ) → 4 ≤ length t
     → get_or t 0 0 ≡ a → get_or t 1 0 ≡ b → get_or t 2 0 ≡ c → get_or t 3 0 ≡ d
     → t ≡ a ∷ b ∷ c ∷ d ∷ behind 4 t

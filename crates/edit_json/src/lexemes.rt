@@ -1,10 +1,10 @@
-//! Takes one token off the front of a JSON text that is written as registries write it: strings have no
-//! escapes, blanks stand only behind a comma or a colon, each number is `1` or `2`, and behind a comma
-//! stands a string, an array or an object.
+//! Takes one token off the front of a JSON text that is written as registries write it: keys, and strings
+//! that are read, have no escapes, strings that are skipped none but `\"` and `\\`; blanks stand only behind a
+//! comma or a colon, each number is `1` or `2`, and behind a comma stands a string, an array or an object.
 //!
 //! A function answers `None` at any other text, also where that is valid JSON. A token is taken together
 //! with what has to stand between it and the next one: a key with its colon, a value with its comma.
-ghost use Rattle.std.specs.Prelude.{◌≡◌, ◌≤◌, ◌∷◌, true, false, length, map, Some, IfSome};
+ghost use Rattle.std.specs.Prelude.{◌≡◌, ℕ, ◌≤◌, List, ◌∷◌, true, false, length, map, Some, IfSome};
 ghost use Rattle.std.specs.List.{prefix_len};
 ghost use Rattle.std.specs.Simd.Lanes.{mask_l};
 ghost use Rattle.json.specs.Lex.{after_value, begins_colon, between, in_string, lex, punctuate, tokens};
@@ -13,6 +13,7 @@ ghost use Rattle.json.specs.Run.{is_plain, is_stop};
 ghost use Rattle.json.specs.Text.{content, plain};
 ghost use Rattle.json.specs.Token as spec;
 ghost use Rattle.json.specs.Word.{ends_word};
+ghost use Rattle.edit_json.specs.Passed.{Passed};
 
 use json::Token;
 use std::simd::prelude::*;
@@ -67,6 +68,31 @@ fn split_string(text: &[u8]) -> Option<(&[u8], &[u8])>
         return None;
     }
     Some((&text[..len], &text[len + 1..]))
+}
+
+/// What follows the bytes before the first quote, backslash or control character.
+#[inline(always)]
+fn skip_plain(text: &[u8]) -> &[u8]
+    ensures passed { Passed text.now result.now }
+    ensures shorter { length result.now ≤ length text.now }
+{
+    &text[plain_len(text)..]
+}
+
+/// What follows a string whose opening quote stands before the text. Of escapes it may have `\"` and `\\`.
+#[inline(always)]
+fn skip_string(text: &[u8]) -> Option<&[u8]>
+    ensures content { IfSome result (λ _. (s : List ℕ) × (content plain text.now ≡ Some s)) }
+    ensures rest { IfSome result (λ rest. lex in_string text.now ≡ lex between rest.now) }
+{
+    let mut rest = skip_plain(text);
+    while let [b'\\', b'"' | b'\\', others @ ..] = rest {
+        rest = skip_plain(others);
+    }
+    match rest {
+        [b'"', others @ ..] => Some(others),
+        _ => None,
+    }
 }
 
 /// What follows the blanks at the front.
@@ -128,6 +154,20 @@ pub(crate) fn split_text(text: &[u8]) -> Option<(&[u8], &[u8])>
     };
     let (content, rest) = split_string(others)?;
     Some((content, skip_comma(rest)?))
+}
+
+/// What follows a string that is no key.
+#[inline(always)]
+pub(crate) fn skip_text(text: &[u8]) -> Option<&[u8]>
+    ensures tokens { IfSome result
+        (λ rest. (s : List ℕ) × (tokens text.now ≡ spec.string s ∷ tokens rest.now)) }
+{
+    let [b'"', others @ ..] = text else {
+        return None;
+    };
+    let rest = skip_string(others)?;
+    let rest = skip_comma(rest)?;
+    Some(rest)
 }
 
 /// `true`, `false`, `null`, `1` or `2`, and what follows it.

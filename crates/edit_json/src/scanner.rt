@@ -3,7 +3,7 @@
 //!
 //! Each function answers `None` at any other text, also where that is valid JSON. Its caller then begins
 //! again with a `json::Reader`.
-ghost use Rattle.std.specs.Prelude.{◌≡◌, ℕ, ◌<◌, [], ◌∷◌, length, IfSome, MatchOption, Some, option_map};
+ghost use Rattle.std.specs.Prelude.{◌≡◌, ℕ, ◌<◌, List, [], ◌∷◌, length, IfSome, MatchOption, Some, option_map};
 ghost use Rattle.std.specs.Bool.{MatchBool, OnTrue};
 ghost use Rattle.json.specs.Json.{after_end_array, read_key};
 ghost use Rattle.json.specs.Lex.{tokens};
@@ -13,7 +13,7 @@ ghost use Rattle.serde_json.specs.Data.{Data, boolean, null, string};
 ghost use Rattle.edit_json.specs.Reads.{ReadsValue};
 
 use crate::lexemes::{
-    split_begin_array, split_begin_object, split_end_array, split_end_object, split_key,
+    skip_text, split_begin_array, split_begin_object, split_end_array, split_end_object, split_key,
     split_literal, split_text,
 };
 use json::Token;
@@ -122,6 +122,15 @@ impl<'a> Scanner<'a> {
         Some(text)
     }
 
+    /// Skips a string, which is no key. It may have the escapes `\"` and `\\`.
+    #[inline(always)]
+    fn skip_text(&mut self) -> Option<()>
+        ensures token { IfSome result (λ _. (s : List ℕ) × (self.old ≡ spec.string s ∷ self.new)) }
+    {
+        self.rest = skip_text(self.rest)?;
+        Some(())
+    }
+
     /// Reads `true`, `false`, `null`, `1` or `2`.
     #[inline(always)]
     fn literal(&mut self) -> Option<Token<'a>>
@@ -201,7 +210,7 @@ impl<'a> Scanner<'a> {
     {
         match self.first() {
             b'"' => {
-                self.text()?;
+                self.skip_text()?;
                 Some(())
             }
             b'[' => self.skip_array(depth),

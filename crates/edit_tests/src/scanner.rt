@@ -59,7 +59,9 @@ fn skips_values_as_registries_write_them(rt: HostRuntime) {
     assert!(rt; skips("[[{}]]", 3));
     assert!(rt; skips("{\"a\":\"\",\"b\": 1}", 1));
     assert!(rt; !skips("[[{}]]", 2));
+    assert!(rt; skips("[\"cfg(target_os = \\\"redox\\\")\",\"\\\\\"]", 1));
     assert!(rt; !skips("\"\\n\"", 1));
+    assert!(rt; !skips("\"\\\"", 1));
     assert!(rt; !skips("\"\t\"", 1));
     assert!(rt; !skips("\"a", 1));
     assert!(rt; !skips("3", 1));

@@ -11,10 +11,10 @@ use Rattle.edit_json.proofs.MemberLoop.{begin, member-more, over}
 use Rattle.edit_json.proofs.ValueLemmas.{reads_string, value_goes_on}
 use Rattle.edit_json.proofs.scanner.Scanner.+skip_value.Goals as goal
 
-pub skip_value-returns-in_ok-text-in-34-clause-value : goal.skip_value-returns-in_ok-text-in-34-clause-value
-skip_value-returns-in_ok-text-in-34-clause-value t c =
-    let text = c.in_ok-text-in-34 in
-    (string text.field-0.now, reads_string c.args.depth c.args.self.now c.text.new.self text.field-0.now text.ensures.token)
+pub skip_value-returns-in_ok-skip_text-in-34-clause-value : goal.skip_value-returns-in_ok-skip_text-in-34-clause-value
+skip_value-returns-in_ok-skip_text-in-34-clause-value t c =
+    let text = c.in_ok-skip_text-in-34.ensures.token in
+    (string text.0, reads_string c.args.depth c.args.self.now c.skip_text.new.self text.0 text.1)
 
 pub skip_array-loop-self-init : goal.skip_array-loop-self-init
 skip_array-loop-self-init t c =
