@@ -1,4 +1,4 @@
-//! The files of the index that an upgrade reads: those of a folder, or those that a list names.
+//! The files of the index that an upgrade reads: all files of a folder, or the ones that a list names.
 
 use edit_answers::CacheStore;
 use edit_base::{CargoResult, Error};
@@ -9,7 +9,7 @@ use edit_store::Store;
 use index_list::{ListedEntry, ListedStore, read_list};
 use std::{process, str};
 
-/// The files of an index: those of the machine, or those that a list shows.
+/// The files of an index: the files of the machine, or the ones that a list shows.
 pub type IndexFiles = ListedStore<CacheStore<HostRuntime>>;
 
 /// The help for a damaged file of the cache.
@@ -86,7 +86,7 @@ fn bad_line_in(
 }
 
 /// Adds to an error about a line of an index the listed file that has it, where `dir` is a list; its number
-/// is then that of the line in this file.
+/// is then the number of the line in this file.
 fn name_file(
     rt: &HostRuntime,
     current: &str,

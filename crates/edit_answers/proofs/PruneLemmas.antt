@@ -113,7 +113,7 @@ all-found front (a ∷ files) =
     (subst (λ fs. All (λ x. list_any (λ t. is_same t x) fs ≡ true) files)
     (append_assoc front (a ∷ []) files) (all-found (front ++ a ∷ []) files))
 
--- a path that does not end in `.etag` is that of its entry
+-- a path that does not end in `.etag` is the path of an entry
 entry-by : (path : List ℕ) (b : Bool) → (b ≡ true → path ≡ take (length path - 5) path ++ codes ".etag")
     → ((front : List ℕ) → path ≡ front ++ codes ".etag" → ⊥)
     → path ≡ cond b (take (length path - 5) path) path

@@ -53,12 +53,12 @@ pub record IsListOf (p : Places) (pairs : List (Lookup × Outcome)) (text : List
   pub available : AreAvailable p pairs entries
   pub is : text ≡ flat_map entry_record entries
 
--- the write of the list of the available entries of these lookups
+-- the write of the list, which has the available entries of these lookups
 pub record PutsList (p : Places) (pairs : List (Lookup × Outcome)) (path bytes : List ℕ) : Type 0 where
   pub at : path ≡ list_path p.room.now
   pub is : IsListOf p pairs bytes
 
--- the list of the available entries of these lookups is written, and no other file changes
+-- the list is written, with the available entries of these lookups, and no other file changes
 pub record WritesList (p : Places) (pairs : List (Lookup × Outcome)) (old new : Files) : Type 0 where
   pub text : List ℕ
   pub is : IsListOf p pairs text

@@ -1,6 +1,7 @@
 //! Takes one token off the front of a JSON text that is written as registries write it: keys, and strings
-//! that are read, have no escapes, strings that are skipped none but `\"` and `\\`; blanks stand only behind a
-//! comma or a colon, each number is `1` or `2`, and behind a comma stands a string, an array or an object.
+//! that are read, have no escapes, strings that are skipped none but `\"` and `\\`; there are blanks only
+//! after a comma or a colon, each number is `1` or `2`, and a comma is followed by a string, an array or an
+//! object.
 //!
 //! A function answers `None` at any other text, also where that is valid JSON. A token is taken together
 //! with what has to stand between it and the next one: a key with its colon, a value with its comma.

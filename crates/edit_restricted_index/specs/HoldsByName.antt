@@ -30,7 +30,8 @@ IsHoldMap crates holds =
 
 -- the new map has what the old one has of crates of other names (own)
 abbrev pub IsWithout : List ℕ → HoldMap → HoldMap → Type 0
-IsWithout name old new = (other : List ℕ) → bytes_eq name other ≡ false → said_of new other ≡ said_of old other
+IsWithout name old new =
+    (other : List ℕ) → bytes_eq name other ≡ false → said_of new other ≡ said_of old other
 
 -- whether a map has no hold that excludes a version of the crate of this name (own)
 abbrev pub passes_map : HoldMap → List ℕ → List ℕ → Bool
