@@ -1,5 +1,8 @@
 -- The results of a lookup in an index (Cargo reference, "Registries", index format).
 use Rattle.std.specs.Prelude.{◌≡◌, ℕ, ◌≤◌, ◌⊎◌, ◌↔◌, List, map, Option, option_map, Result, Err, IfErr, string_bytes}
+use Rattle.std.specs.declared.alloc.Global.{Global}
+use Rattle.std.specs.Rc.{rc_value}
+use Rattle.std.specs.declared.rc.Rc.{Rc}
 use Rattle.url.specs.Parts.{Parts}
 use Rattle.edit_base.specs.declared.errors.Error.{Error}
 use Rattle.edit_base.specs.declared.errors.Error.TheVariants.{Scheme, IndexPath, BadCrateName, IndexLine}
@@ -15,6 +18,10 @@ entries_of krate = map entry_of krate.versions.items
 -- the entries of a crate; none where the index has no crate of that name (own)
 abbrev pub answer_of : Option IndexKrate → Option (List IndexEntry)
 answer_of krate = option_map entries_of krate
+
+-- an answer that several owners share (own)
+abbrev pub shared_in : Option (Rc IndexKrate Global) → Option IndexKrate
+shared_in answer = option_map rc_value answer
 
 -- the model of an error of a lookup: a scheme that the index does not support, a URL that names no folder,
 -- an invalid crate name, the number of a malformed line, or any other error by its number (own)

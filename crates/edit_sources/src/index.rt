@@ -2,12 +2,13 @@
 ghost use Rattle.std.specs.Prelude.{◌≡◌, Ok, IfOk, IfErr, map};
 ghost use Rattle.edit_base.specs.Errors.{IsMemory};
 ghost use Rattle.edit_version.specs.IndexEntry.{entry_of};
-ghost use Rattle.edit_sources.specs.Index.{HasLookupCause, IndexView, SameOutcomes, answer_of, entries_of};
+ghost use Rattle.edit_sources.specs.Index.{HasLookupCause, IndexView, SameOutcomes, answer_of, entries_of, shared_in};
 
 use crate::withheld::Withheld;
 use edit_base::errors::CargoResult;
 use edit_version::fetch::IndexVersion;
-use std::alloc::Global;
+use std::alloc::{AllocError, Global};
+use std::rc::Rc;
 use url::Url;
 
 /// The versions of a crate in an index, in the order of the index.
@@ -47,6 +48,19 @@ pub(crate) fn clone_versions(
     Ok(all)
 }
 
+/// Moves an answer into memory that several owners can share.
+pub(crate) fn share(
+    alloc: Global,
+    answer: Option<IndexKrate>,
+) -> Result<Option<Rc<IndexKrate>>, AllocError>
+    ensures { IfOk result (λ k. shared_in k ≡ answer) }
+{
+    match answer {
+        Some(krate) => Ok(Some(Rc::new(alloc, krate)?)),
+        None => Ok(None),
+    }
+}
+
 /// An index in which crates are looked up.
 pub trait Index {
     /// The model of an index: the possible results of a lookup of a name at an address (entries, none, or an
@@ -61,6 +75,25 @@ pub trait Index {
         ensures same { SameOutcomes (view self.old).gives (view self.new).gives }
         ensures given { IfOk result (λ k. (view self.old).gives registry.now name.now (Ok (answer_of k))) }
         ensures cause { HasLookupCause (view self.old) (view self.new) registry.now name.now result };
+
+    /// Looks up a crate as `look` does; an index that holds the entries in memory shares them, without a
+    /// copy.
+    fn look_shared(
+        &mut self,
+        alloc: Global,
+        registry: &Url,
+        name: &str,
+    ) -> CargoResult<Option<Rc<IndexKrate>>>
+        ensures same { SameOutcomes (view self.old).gives (view self.new).gives }
+        ensures given { IfOk result (λ k. (view self.old).gives registry.now name.now
+            (Ok (answer_of (shared_in k)))) }
+        ensures cause { HasLookupCause (view self.old) (view self.new) registry.now name.now result }
+    {
+        match self.look(alloc, registry, name) {
+            Ok(answer) => Ok(share(alloc, answer)?),
+            Err(error) => Err(error),
+        }
+    }
 
     /// How often the device below the index has failed.
     fn faults(&self) -> u64
