@@ -1,29 +1,26 @@
 -- Groups of entries by name, to which runs of entries of one name are added.
 use Rattle.std.proofs.Common.{◌≡◌, ℕ, List, [], ◌∷◌, ◌++◌, true, false, cond, arith, ◌==◌, refl, sym, ap, ◌∙◌, Option, None, Some, ◌⊎◌, append_assoc, append-nil, inl, inr, ⊎_elim}
-use Rattle.std.specs.Prelude.{String, Vec, slice_get, string_bytes}
+use Rattle.std.specs.Prelude.{String, Vec, slice_get, string_bytes, unwrap_or}
 use Rattle.std.specs.declared.alloc.Global.{Global}
 use Rattle.std.specs.List.{filter}
-use Rattle.std.specs.Option.{option_map_or, UnwrapsOrElse}
+use Rattle.std.specs.Option.{option_map_or}
 use Rattle.std.specs.Str.{bytes_eq}
 use Rattle.std.specs.Vec.{vec_len}
-use Rattle.std.specs.BTreeMap.{BTreeMap, get_by_text}
+use Rattle.std.specs.BTreeMap.{BTreeMap}
 use Rattle.std.proofs.lemmas.Bool.{cases_Bool, false≢true}
 use Rattle.std.proofs.lemmas.List.{nil_from_length}
 use Rattle.std.proofs.lemmas.List.Elements.{All-head, All-tail, All-nil, All-push, filter-append}
 use Rattle.std.proofs.lemmas.Slice.Eq.{bytes_eq-Decides}
 use Rattle.edit_version.specs.declared.fetch.IndexVersion.{IndexVersion}
-use Rattle.edit_sources.specs.FileIndex.{AreNamed, IsAdded}
+use Rattle.edit_sources.specs.FileIndex.{AreNamed, IsAdded, items_at, items_of, shared_items}
+use Rattle.edit_sources.specs.declared.file_index.Group.{Group}
 
 abbrev Groups : Type 0
-Groups = BTreeMap (String Global) (Vec IndexVersion Global)
+Groups = BTreeMap (String Global) Group
 
 -- the entries of a name among these
 abbrev pub with_name : List ℕ → List IndexVersion → List IndexVersion
 with_name q xs = filter (λ e. bytes_eq q (string_bytes e.name)) xs
-
--- the group of a name
-abbrev pub group_of : Groups → List ℕ → List IndexVersion
-group_of groups q = option_map_or (λ g. g.items) (get_by_text groups q) []
 
 module _ (name q : List ℕ) where
   with_name-step : (b : _) → bytes_eq q name ≡ b → (x : IndexVersion) (xs : List IndexVersion)
@@ -56,28 +53,40 @@ module _ (name q : List ℕ) where
 
 -- a run joins the group of its name, and no other
 pub joined : (groups : Groups) (name : List ℕ) (run group : List IndexVersion) (q : List ℕ)
-    → AreNamed name run → group ≡ group_of groups name ++ run
-    → ((bytes_eq q name ≡ true) × (group ≡ group_of groups q ++ with_name q run))
-    ⊎ ((bytes_eq q name ≡ false) × (group_of groups q ≡ group_of groups q ++ with_name q run))
+    → AreNamed name run → group ≡ items_at groups name ++ run
+    → ((bytes_eq q name ≡ true) × (group ≡ items_at groups q ++ with_name q run))
+    ⊎ ((bytes_eq q name ≡ false) × (items_at groups q ≡ items_at groups q ++ with_name q run))
 joined groups name run group q named items = ⊎_elim
     (λ t. inl (
       t.0,
-      items ∙ ap (λ n. group_of groups n ++ run) (sym ((bytes_eq-Decides q name).0 t.0)) ∙
-          ap (λ xs. group_of groups q ++ xs) (sym t.1),
+      items ∙ ap (λ n. items_at groups n ++ run) (sym ((bytes_eq-Decides q name).0 t.0)) ∙
+          ap (λ xs. items_at groups q ++ xs) (sym t.1),
     ))
-    (λ f. inr (f.0, sym (append-nil (group_of groups q)) ∙ ap (λ xs. group_of groups q ++ xs) (sym f.1)))
+    (λ f. inr (f.0, sym (append-nil (items_at groups q)) ∙ ap (λ xs. items_at groups q ++ xs) (sym f.1)))
     (with_name-is name q run named)
 
--- what `or_default` gives for a name is its group
-pub defaulted : (found : Option (Vec IndexVersion Global)) (group : Vec IndexVersion Global)
-    → UnwrapsOrElse found (λ v. (v.items ≡ []) × (vec_len v ≡ 0)) group
-    → option_map_or (λ g. g.items) found [] ≡ group.items
-defaulted None group h = sym h.0
-defaulted (Some x) group h = ap (λ g. g.items) (sym h)
+unwrapped : (found : Option Group) (default group : Group) → items_of default ≡ []
+    → group ≡ unwrap_or found default → option_map_or items_of found [] ≡ items_of group
+unwrapped None default group none is = sym none ∙ ap items_of (sym is)
+unwrapped (Some x) default group none is = ap items_of (sym is)
 
--- a group of no length has no entries
-pub emptied : (group : Vec IndexVersion Global) → true ≡ (vec_len group == 0) → group.items ≡ []
-emptied group h = grind (arith, group.ok, nil_from_length)
+-- what `or_insert` gives for a name is its group
+pub inserted : (found known : Option Group) (default group : Group) → found ≡ known → items_of default ≡ []
+    → group ≡ unwrap_or found default → option_map_or items_of known [] ≡ items_of group
+inserted found known default group same none is =
+    ap (λ o. option_map_or items_of o []) (sym same) ∙ unwrapped found default group none is
+
+-- a list of no length has no entries
+pub emptied : (entries : Vec IndexVersion Global) → true ≡ (vec_len entries == 0) → entries.items ≡ []
+emptied entries h = grind (arith, entries.ok, nil_from_length)
+
+-- the entries of a group, before entries that are added to those that are not shared
+pub appended : (group after : Group) (run : List IndexVersion) → after.shared ≡ group.shared
+    → after.versions.items ≡ group.versions.items ++ run → items_of after ≡ items_of group ++ run
+appended group after run shared items =
+    ap (λ o. shared_items o ++ after.versions.items) shared ∙
+    ap (λ xs. shared_items group.shared ++ xs) items ∙
+    sym (append_assoc (shared_items group.shared) group.versions.items run)
 
 -- an entry of the name of the first entry has the name of them all
 pub continued : (run : List IndexVersion) (x : IndexVersion)
@@ -89,7 +98,7 @@ continued (e ∷ es) x h name named = sym ((bytes_eq-Decides (string_bytes e.nam
 
 -- all entries except the last ones, which are of one name, are in the groups
 abbrev pub HasGrouped : Groups → List IndexVersion → List IndexVersion → Type 0
-HasGrouped groups run entries = ((q : List ℕ) → group_of groups q ++ with_name q run ≡ with_name q entries)
+HasGrouped groups run entries = ((q : List ℕ) → items_at groups q ++ with_name q run ≡ with_name q entries)
     × ((name : List ℕ) × AreNamed name run)
 
 module _ (groups : Groups) (run entries : List IndexVersion) (has : HasGrouped groups run entries) where
@@ -98,15 +107,15 @@ module _ (groups : Groups) (run entries : List IndexVersion) (has : HasGrouped g
       → HasGrouped groups (run ++ x ∷ []) (entries ++ x ∷ [])
   grouped-more x named = (
     λ q. let test = λ (e : IndexVersion). bytes_eq q (string_bytes e.name) in
-        ap (λ t. group_of groups q ++ t) (filter-append test run (x ∷ [])) ∙
-        sym (append_assoc (group_of groups q) (with_name q run) (with_name q (x ∷ []))) ∙
+        ap (λ t. items_at groups q ++ t) (filter-append test run (x ∷ [])) ∙
+        sym (append_assoc (items_at groups q) (with_name q run) (with_name q (x ∷ []))) ∙
         ap (λ t. t ++ with_name q (x ∷ [])) (has.0 q) ∙ sym (filter-append test entries (x ∷ [])),
     (has.1.0, All-push (λ v. string_bytes v.name ≡ has.1.0) run x has.1.1 (named has.1.0 has.1.1)),
   )
 
   -- all entries, where the run is added
   pub grouped-all : (after : Groups) → IsAdded groups run after
-      → (q : List ℕ) → group_of after q ≡ with_name q entries
+      → (q : List ℕ) → items_at after q ≡ with_name q entries
   grouped-all after added q = added q ∙ has.0 q
 
   -- one entry more, where the run is added before it

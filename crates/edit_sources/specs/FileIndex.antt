@@ -1,10 +1,12 @@
 -- The results of a lookup in an index in a single file (own).
-use Rattle.std.specs.Prelude.{◌≡◌, ℕ, List, [], ◌∷◌, ◌++◌, Option, Some, None, Ok, Err, true, false, map, ◌⊎◌, String, Vec, string_bytes, unwrap_or}
+use Rattle.std.specs.Prelude.{◌≡◌, ℕ, List, [], ◌∷◌, ◌++◌, Option, Some, None, Ok, Err, true, false, map, ◌⊎◌, String, string_bytes, unwrap_or}
 use Rattle.std.specs.List.{All, filter}
 use Rattle.std.specs.Option.{option_map_or}
 use Rattle.std.specs.Str.{bytes_eq}
 use Rattle.std.specs.BTreeMap.{BTreeMap, get_by_text}
 use Rattle.std.specs.declared.alloc.Global.{Global}
+use Rattle.std.specs.declared.rc.Rc.{Rc}
+use Rattle.edit_sources.specs.declared.index.IndexKrate.{IndexKrate}
 use Rattle.edit_version.specs.declared.fetch.IndexVersion.{IndexVersion}
 use Rattle.edit_version.specs.IndexEntry.{IndexEntry, entry_of}
 use Rattle.edit_sources.specs.Index.{IndexView, Outcome, bad_name}
@@ -14,10 +16,23 @@ use Rattle.edit_sources.specs.Withheld.{nothing, of_crate_in}
 use Rattle.edit_sources.specs.declared.published.PublishedBefore.{PublishedBefore}
 use Rattle.edit_sources.specs.declared.withheld.Withheld.{Withheld}
 use Rattle.edit_sources.specs.declared.file_index.FileIndex.{FileIndex}
+use Rattle.edit_sources.specs.declared.file_index.Group.{Group}
+
+-- the shared entries of a group, none where none are shared (own)
+abbrev pub shared_items : Option (Rc IndexKrate Global) → List IndexVersion
+shared_items shared = option_map_or (λ krate. krate.value.versions.items) shared []
+
+-- the entries of a group: those that are shared, and those that are not yet (own)
+abbrev pub items_of : Group → List IndexVersion
+items_of group = shared_items group.shared ++ group.versions.items
+
+-- the entries of a crate among groups, in the order of the lines (own)
+abbrev pub items_at : BTreeMap (String Global) Group → List ℕ → List IndexVersion
+items_at groups name = option_map_or items_of (get_by_text groups name) []
 
 -- the entries of a crate, in the order of the lines (own)
 abbrev pub named : FileIndex → List ℕ → List IndexEntry
-named index name = map entry_of (option_map_or (λ g. g.items) (get_by_text index.groups name) [])
+named index name = map entry_of (items_at index.groups name)
 
 -- the lines of a file have entries, and each name has those of that name, in order (own)
 pub record HoldsLines (index : FileIndex) (bytes : List ℕ) : Type 0 where
@@ -26,10 +41,10 @@ pub record HoldsLines (index : FileIndex) (bytes : List ℕ) : Type 0 where
   pub groups : (name : List ℕ) → named index name ≡ filter (λ e. bytes_eq name e.name) entries
 
 -- each name has its entries, in order (own)
-abbrev pub GroupsByName : BTreeMap (String Global) (Vec IndexVersion Global) → List IndexVersion → Type 0
+abbrev pub GroupsByName : BTreeMap (String Global) Group → List IndexVersion → Type 0
 GroupsByName groups entries =
     (name : List ℕ)
-    → option_map_or (λ g. g.items) (get_by_text groups name) []
+    → items_at groups name
     ≡ filter (λ e. bytes_eq name (string_bytes e.name)) entries
 
 -- all entries are of this name (own)
@@ -37,12 +52,12 @@ abbrev pub AreNamed : List ℕ → List IndexVersion → Type 0
 AreNamed name entries = All (λ e. string_bytes e.name ≡ name) entries
 
 -- each name has its entries among the new ones after those that it had (own)
-abbrev pub IsAdded : BTreeMap (String Global) (Vec IndexVersion Global) → List IndexVersion
-    → BTreeMap (String Global) (Vec IndexVersion Global) → Type 0
+abbrev pub IsAdded : BTreeMap (String Global) Group → List IndexVersion
+    → BTreeMap (String Global) Group → Type 0
 IsAdded before entries after =
     (name : List ℕ)
-    → option_map_or (λ g. g.items) (get_by_text after name) []
-    ≡ option_map_or (λ g. g.items) (get_by_text before name) []
+    → items_at after name
+    ≡ items_at before name
     ++ filter (λ e. bytes_eq name (string_bytes e.name)) entries
 
 -- what is held back of a crate; none where the file has no line of it, and without a bound (own)

@@ -1,17 +1,18 @@
 //! An index in a single file, which is read once.
-ghost use Rattle.std.specs.Prelude.{◌≡◌, ℕ, [], List, None, Ok, false, IfOk, IfErr, IfSome, map, slice_get, string_bytes, unwrap_or};
+ghost use Rattle.std.specs.Prelude.{◌≡◌, ◌⊎◌, ℕ, [], List, None, Ok, Some, true, false, IfOk, IfErr, IfSome, OnOk, map, slice_get, string_bytes, unwrap_or};
 ghost use Rattle.std.specs.Option.{option_map_or};
 ghost use Rattle.std.specs.Str.{bytes_eq};
-ghost use Rattle.edit_base.specs.Errors.{IsMemory};
+ghost use Rattle.edit_base.specs.Errors.{IsMemory, number_of};
 ghost use Rattle.edit_version.specs.IndexEntry.{entry_of};
-ghost use Rattle.edit_sources.specs.FileIndex.{AreNamed, FileGives, GroupsByName, HasWithheld, HoldsLines, HoldsWithheld, IsAdded, file_view, if_known};
-ghost use Rattle.edit_sources.specs.Index.{HasLookupCause, SameOutcomes, answer_of};
+ghost use Rattle.edit_sources.specs.FileIndex.{AreNamed, FileGives, GroupsByName, HasWithheld, HoldsLines, HoldsWithheld, IsAdded, file_view, if_any, if_known, items_at, items_of};
+ghost use Rattle.edit_sources.specs.Index.{HasLookupCause, IsLookupErrorNumber, SameOutcomes, answer_of, bad_name, entries_of, lookup_error, shared_in};
 ghost use Rattle.edit_sources.specs.IndexLines.{IsLinesError, lines_of};
+ghost use Rattle.edit_sources.specs.Names.{is_crate_name};
 ghost use Rattle.edit_sources.specs.Published.{text_by};
 ghost use Rattle.edit_sources.specs.Withheld.{nothing, withheld_of};
 
 use crate::crate_name::is_crate_name;
-use crate::index::{Index, IndexKrate, clone_versions};
+use crate::index::{Index, IndexKrate, clone_versions, share};
 use crate::index_lines::read_lines;
 use crate::published::PublishedBefore;
 use crate::published_lines::{PublishedLines, read_published_lines};
@@ -22,12 +23,89 @@ use edit_version::fetch::IndexVersion;
 use std::alloc::{AllocError, Global};
 use std::collections::BTreeMap;
 use std::mem;
+use std::rc::Rc;
 use url::Url;
+
+/// The entries of a crate in an index file, in the order of its lines.
+#[derive(Debug, Drop)]
+pub(crate) struct Group {
+    /// The first entries, once a lookup has shared them.
+    pub(crate) shared: Option<Rc<IndexKrate>>,
+    /// The entries after those.
+    pub(crate) versions: Vec<IndexVersion>,
+}
+
+impl Group {
+    /// Moves the entries into memory that lookups share, unless some are there.
+    fn move_entries(&mut self, alloc: Global, withheld: Withheld) -> Result<(), AllocError>
+        ensures { items_of self.new ≡ items_of self.old }
+    {
+        if self.shared.is_some() || self.versions.is_empty() {
+            return Ok(());
+        }
+        let versions = mem::replace(&mut self.versions, Vec::new(alloc));
+        match Rc::new(alloc, IndexKrate { versions, withheld }) {
+            Ok(shared) => {
+                self.shared = Some(shared);
+                Ok(())
+            }
+            Err(failed) => {
+                self.versions = failed.value.versions;
+                Err(AllocError)
+            }
+        }
+    }
+
+    /// The shared entries, if these are all, there are any, and as much was held back of the crate.
+    fn shared_krate(&self, withheld: Withheld) -> Option<&Rc<IndexKrate>>
+        ensures entries { IfSome result (λ s. s.now.value.versions.items ≡ items_of self.now) }
+        ensures any { IfSome result (λ s. if_any (entries_of s.now.value) ≡ Some (entries_of s.now.value)) }
+        ensures withheld { IfSome result (λ s. s.now.value.withheld ≡ withheld) }
+    {
+        let shared = self.shared.as_ref()?;
+        if shared.versions.is_empty() || !self.versions.is_empty() || shared.withheld != withheld {
+            return None;
+        }
+        Some(shared)
+    }
+
+    /// Shares the entries; `None` where there are none, or they can't be shared.
+    fn share(
+        &mut self,
+        alloc: Global,
+        withheld: Withheld,
+    ) -> Result<Option<Rc<IndexKrate>>, AllocError>
+        ensures same { items_of self.new ≡ items_of self.old }
+        ensures entries { IfOk result (λ r. IfSome r (λ s. s.value.versions.items ≡ items_of self.old)) }
+        ensures any { IfOk result (λ r. IfSome r (λ s. if_any (entries_of s.value) ≡ Some (entries_of s.value))) }
+        ensures withheld { IfOk result (λ r. IfSome r (λ s. s.value.withheld ≡ withheld)) }
+    {
+        self.move_entries(alloc, withheld)?;
+        match self.shared_krate(withheld) {
+            Some(shared) => Ok(Some(shared.clone()?)),
+            None => Ok(None),
+        }
+    }
+
+    /// Copies the entries into memory of their own.
+    fn copy_entries(&self, alloc: Global) -> CargoResult<Vec<IndexVersion>>
+        ensures ok { IfOk result (λ v. map entry_of v.items ≡ map entry_of (items_of self.now)) }
+        ensures error { IfErr result IsMemory }
+    {
+        let Some(shared) = &self.shared else {
+            return clone_versions(alloc, &self.versions);
+        };
+        let mut all = clone_versions(alloc, &shared.versions)?;
+        let mut rest = clone_versions(alloc, &self.versions)?;
+        all.append(&mut rest)?;
+        Ok(all)
+    }
+}
 
 /// An index in a single file, which is read once. The address of a lookup is ignored.
 #[derive(Debug, Drop)]
 pub struct FileIndex {
-    groups: BTreeMap<String, Vec<IndexVersion>>,
+    groups: BTreeMap<String, Group>,
     /// What was held back of each crate that the file has lines of; empty without a bound.
     withheld: WithheldCrates,
 }
@@ -80,7 +158,7 @@ impl FileIndex {
 fn group_by_crate(
     alloc: Global,
     entries: Vec<IndexVersion>,
-) -> Result<BTreeMap<String, Vec<IndexVersion>>, AllocError>
+) -> Result<BTreeMap<String, Group>, AllocError>
     ensures { IfOk result (λ m. GroupsByName m entries.items) }
 {
     let mut groups = BTreeMap::new(alloc);
@@ -88,12 +166,12 @@ fn group_by_crate(
     for entry in entries {
         if !is_same_crate(&run, &entry) {
             let ended = mem::replace(&mut run, Vec::new(alloc));
-            add_run(&mut groups, ended)?;
+            add_run(alloc, &mut groups, ended)?;
             run.reserve_exact(1)?;
         }
         run.push(entry)?;
     }
-    add_run(&mut groups, run)?;
+    add_run(alloc, &mut groups, run)?;
     Ok(groups)
 }
 
@@ -112,7 +190,8 @@ fn is_same_crate(run: &[IndexVersion], entry: &IndexVersion) -> bool
 
 /// Appends a run, whose entries all have one name, to the group of that name.
 fn add_run(
-    groups: &mut BTreeMap<String, Vec<IndexVersion>>,
+    alloc: Global,
+    groups: &mut BTreeMap<String, Group>,
     run: Vec<IndexVersion>,
 ) -> Result<(), AllocError>
     ensures { IfOk result (λ _. (name : List ℕ)
@@ -122,14 +201,63 @@ fn add_run(
     let Some(first) = run.first() else {
         return Ok(());
     };
-    let group = groups.entry(first.name.clone()?)?.or_default();
-    if group.is_empty() {
-        *group = run;
+    let group = groups.entry(first.name.clone()?)?.or_insert(Group {
+        shared: None,
+        versions: Vec::new(alloc),
+    });
+    if group.versions.is_empty() {
+        group.versions = run;
         return Ok(());
     }
     let mut run = run;
-    group.append(&mut run)?;
+    group.versions.append(&mut run)?;
     Ok(())
+}
+
+/// Shares the entries of a crate; `None` where it has none, or they can't be shared.
+fn share_group(
+    alloc: Global,
+    groups: &mut BTreeMap<String, Group>,
+    name: &str,
+    withheld: Withheld,
+) -> Result<Option<Rc<IndexKrate>>, AllocError>
+    ensures same { (q : List ℕ) → items_at groups.new q ≡ items_at groups.old q }
+    ensures entries { IfOk result (λ r. IfSome r (λ s. s.value.versions.items ≡ items_at groups.old name.now)) }
+    ensures any { IfOk result (λ r. IfSome r (λ s. if_any (entries_of s.value) ≡ Some (entries_of s.value))) }
+    ensures withheld { IfOk result (λ r. IfSome r (λ s. s.value.withheld ≡ withheld)) }
+{
+    match groups.get_mut(name) {
+        Some(group) => group.share(alloc, withheld),
+        None => Ok(None),
+    }
+}
+
+/// Copies the entries of a crate, if there are any.
+fn copied_entries(alloc: Global, group: Option<&Group>) -> CargoResult<Vec<IndexVersion>>
+    ensures ok { IfOk result (λ v. map entry_of v.items
+        ≡ map entry_of (option_map_or (λ g. items_of g.now) group.entry [])) }
+    ensures error { IfErr result IsMemory }
+{
+    match group {
+        Some(group) => group.copy_entries(alloc),
+        None => Ok(Vec::new(alloc)),
+    }
+}
+
+/// `Error::BadCrateName` for what is no name of a crate.
+fn check_name(alloc: Global, name: &str) -> CargoResult<()>
+    ensures ok { OnOk result (is_crate_name name.now ≡ true) }
+    ensures error { IfErr result (λ e. IsMemory e
+        ⊎ ((is_crate_name name.now ≡ false) × IsLookupErrorNumber (number_of e)
+        × (lookup_error e ≡ bad_name name.now))) }
+{
+    if is_crate_name(name) {
+        Ok(())
+    } else {
+        Err(Error::BadCrateName {
+            name: String::from_str(alloc, name)?,
+        })
+    }
 }
 
 /// The answer for a crate of which nothing is left.
@@ -149,21 +277,19 @@ fn empty_krate(alloc: Global, withheld: Option<Withheld>) -> Option<IndexKrate>
 /// The answer for a crate with these entries; `None` where there are none, and nothing was held back.
 fn krate_of(
     alloc: Global,
-    entries: Option<&Vec<IndexVersion>>,
+    versions: Vec<IndexVersion>,
     withheld: Option<Withheld>,
-) -> CargoResult<Option<IndexKrate>>
-    ensures answer { IfOk result (λ k. answer_of k
-        ≡ if_known withheld (map entry_of (option_map_or (λ g. g.now.items) entries.entry []))) }
-    ensures withheld { IfOk result (λ k. IfSome k (λ k. k.withheld ≡ unwrap_or withheld nothing)) }
-    ensures error { IfErr result IsMemory }
+) -> Option<IndexKrate>
+    ensures answer { answer_of result ≡ if_known withheld (map entry_of versions.items) }
+    ensures withheld { IfSome result (λ k. k.withheld ≡ unwrap_or withheld nothing) }
 {
-    match entries {
-        Some(entries) if !entries.is_empty() => Ok(Some(IndexKrate {
-            versions: clone_versions(alloc, entries)?,
-            withheld: withheld.unwrap_or(Withheld::nothing()),
-        })),
-        _ => Ok(empty_krate(alloc, withheld)),
+    if versions.is_empty() {
+        return empty_krate(alloc, withheld);
     }
+    Some(IndexKrate {
+        versions,
+        withheld: withheld.unwrap_or(Withheld::nothing()),
+    })
 }
 
 impl Index for FileIndex {
@@ -181,13 +307,33 @@ impl Index for FileIndex {
             result }
         ensures withheld { IfOk result (λ k. IfSome k (λ k. HasWithheld self.old name.now k.withheld)) }
     {
-        if !is_crate_name(name) {
-            return Err(Error::BadCrateName {
-                name: String::from_str(alloc, name)?,
-            });
-        }
+        check_name(alloc, name)?;
+        let versions = copied_entries(alloc, self.groups.get(name))?;
         let withheld = self.withheld.get(name).copied();
-        krate_of(alloc, self.groups.get(name), withheld)
+        Ok(krate_of(alloc, versions, withheld))
+    }
+
+    fn look_shared(
+        &mut self,
+        alloc: Global,
+        registry: &Url,
+        name: &str,
+    ) -> CargoResult<Option<Rc<IndexKrate>>>
+        ensures same { SameOutcomes (file_view self.old).gives (file_view self.new).gives }
+        ensures given { IfOk result (λ k. FileGives self.old name.now (Ok (answer_of (shared_in k)))) }
+        ensures cause { HasLookupCause (file_view self.old) (file_view self.new) registry.now name.now
+            result }
+        ensures withheld { IfOk result (λ k. IfSome (shared_in k)
+            (λ k. HasWithheld self.old name.now k.withheld)) }
+    {
+        check_name(alloc, name)?;
+        let withheld = self.withheld.get(name).copied();
+        let known = withheld.unwrap_or(Withheld::nothing());
+        if let Some(shared) = share_group(alloc, &mut self.groups, name, known)? {
+            return Ok(Some(shared));
+        }
+        let versions = copied_entries(alloc, self.groups.get(name))?;
+        Ok(share(alloc, krate_of(alloc, versions, withheld))?)
     }
 
     fn faults(&self) -> u64 {
