@@ -24,7 +24,7 @@ ODD_PARTS = [*ESCAPES, "\\", '"', "\t", "\0", "\x1f", "\x7f", "\u00e9", "\\ud800
              *(bytes([code]) for code in (0x80, 0xbf, 0xc3, 0xe2, 0xf0, 0xff)), b"\xed\xa0\x80"]
 # The digits of the least number that is past the range of a float.
 PAST_FLOATS = "1797693134862315807937289714053034150799341327100378269361737789804449682927647509466490179775"
-MARKS = (b'":', b':"', b":[", b":{", b',"', b",{", b'["', b"[{", b'"]', b'{"', b"}}", b"]}", b"},", b"],", b'",')
+MARKS = (b'":', b':"', b":[", b":{", b',"', b",{", b'["', b"[{", b'"]', b'{"', b"}}", b"]}", b"},", b'",')
 BLANKS = (b" ", b"  ", b"\t", b"\r", b" \t\r ", b"\x0c", b"\x0b", b"\xc2\xa0")
 
 
