@@ -3,11 +3,12 @@ ghost use Rattle.std.specs.Prelude.{◌≡◌, IfOk};
 ghost use Rattle.edit_restricted_index.specs.RestrictedIndex.{index_of, test_in, view_of};
 ghost use Rattle.edit_restricted_index.specs.VersionTests.{test_of};
 
-use crate::retained_entries::restricted_answer;
+use crate::retained_entries::{restrict_shared, restricted_answer};
 use crate::version_tests::{Restriction, VersionTests};
 use edit_base::errors::CargoResult;
 use edit_sources::index::{Index, IndexKrate};
 use std::alloc::{AllocError, Global};
+use std::rc::Rc;
 use url::Url;
 
 /// An index restricted to some versions of crates, or a whole index.
@@ -47,6 +48,19 @@ impl<I: Index> Index for RestrictedIndex<'_, I> {
             Err(error) => return Err(error),
         };
         restricted_answer(alloc, &self.tests, name, answer)
+    }
+
+    fn look_shared(
+        &mut self,
+        alloc: Global,
+        registry: &Url,
+        name: &str,
+    ) -> CargoResult<Option<Rc<IndexKrate>>> {
+        let answer = match self.index.look_shared(alloc, registry, name) {
+            Ok(answer) => answer,
+            Err(error) => return Err(error),
+        };
+        restrict_shared(alloc, &self.tests, name, answer)
     }
 
     fn faults(&self) -> u64 {

@@ -1,7 +1,7 @@
 //! The entries of a crate that a restricted index has.
 ghost use Rattle.std.specs.Prelude.{◌≡◌, ◌++◌, ◌∷◌, [], IfErr, IfOk, OnOk, if◌then◌else◌, map, option_map};
 ghost use Rattle.edit_base.specs.Errors.{IsMemory};
-ghost use Rattle.edit_sources.specs.Index.{answer_of, entries_of};
+ghost use Rattle.edit_sources.specs.Index.{answer_of, entries_of, shared_in};
 ghost use Rattle.edit_sources.specs.Withheld.{withheld_of};
 ghost use Rattle.edit_version.specs.IndexEntry.{entry_of};
 ghost use Rattle.edit_restricted_index.specs.RestrictedIndex.{restricted_answer};
@@ -13,6 +13,7 @@ use edit_base::errors::CargoResult;
 use edit_sources::index::IndexKrate;
 use edit_version::fetch::IndexVersion;
 use std::alloc::Global;
+use std::rc::Rc;
 
 /// Adds a copy of an entry, where its version passes.
 fn add_passing(
@@ -86,6 +87,31 @@ fn passing_answer(
     }
     match answer {
         Some(krate) => Ok(Some(passing_krate(alloc, tests, name, &krate)?)),
+        None => Ok(None),
+    }
+}
+
+/// The shared answer of a lookup in a restricted index, from that of the whole index: the same where all
+/// versions of the crate pass.
+pub(crate) fn restrict_shared(
+    alloc: Global,
+    tests: &VersionTests<'_>,
+    name: &str,
+    answer: Option<Rc<IndexKrate>>,
+) -> CargoResult<Option<Rc<IndexKrate>>>
+    ensures ok { IfOk result (λ k. answer_of (shared_in k)
+        ≡ restricted_answer (tests_of tests.now) name.now (answer_of (shared_in answer))) }
+    ensures withheld { IfOk result (λ k. withheld_of (shared_in k) ≡ withheld_of (shared_in answer)) }
+    ensures error { IfErr result IsMemory }
+{
+    if tests.passes_all(name) {
+        return Ok(answer);
+    }
+    match answer {
+        Some(krate) => {
+            let passing = passing_krate(alloc, tests, name, krate.as_ref())?;
+            Ok(Some(Rc::new(alloc, passing)?))
+        }
         None => Ok(None),
     }
 }
