@@ -5,10 +5,12 @@ ghost use Rattle.url.specs.Parts.{serialize};
 ghost use Rattle.edit_base.specs.Errors.{IsMemory};
 ghost use Rattle.edit_sources.specs.Index.{answer_of};
 ghost use Rattle.edit_cache.specs.IndexCache.{Fetches, IsMissError, Ranks, HasSameCache, HasSameCacheBut, has_version, index_of, cached_answer_at, krate_at, ranking_at, cached_at};
-ghost use Rattle.edit_cache.specs.CachedAnswer.{IsRanked, IsRankedAt};
+ghost use Rattle.edit_cache.specs.CachedAnswer.{IsRanked, IsRankedAt, krate_in};
 
 mod choice_cache;
+mod shared_answers;
 
+use self::shared_answers::look_shared;
 use crate::cached_result::CachedAnswer;
 use crate::ranking::Ranked;
 use crate::registry_answers::RegistryAnswers;
@@ -17,6 +19,7 @@ use edit_sources::index::{Index, IndexKrate};
 use std::alloc::Global;
 use std::collections::BTreeMap;
 use std::mem;
+use std::rc::Rc;
 use url::Url;
 
 /// A cache of the results of an index: for each address and name, the result of the first successful lookup
@@ -46,17 +49,6 @@ impl<I: Index> IndexCache<I> {
         ensures preserved { HasSameCache self.old self.new }
     {
         mem::replace(&mut self.index, index)
-    }
-
-    /// The cached entries of a crate; `None` where nothing is cached, or the index has no crate of that
-    /// name.
-    pub fn cached_krate(&self, registry: &Url, name: &str) -> Option<&IndexKrate>
-        ensures { option_copied result ≡ krate_at self.now (serialize registry.now) name.now }
-    {
-        match self.cached_answer(registry.as_str(), name) {
-            Some(cached) => cached.answer.as_ref(),
-            None => None,
-        }
     }
 
     /// The cached result and its ranking, if there is one.
@@ -94,10 +86,10 @@ impl<I: Index> IndexCache<I> {
         alloc: Global,
         address: &str,
         name: &str,
-        answer: Option<IndexKrate>,
+        answer: Option<Rc<IndexKrate>>,
     ) -> CargoResult<()>
         ensures index { self.new.index ≡ self.old.index }
-        ensures preserved { OnOk result (cached_answer_at self.new address.now name.now ≡ Some answer) }
+        ensures preserved { OnOk result (cached_answer_at self.new address.now name.now ≡ Some (krate_in answer)) }
         ensures others { HasSameCacheBut address.now name.now self.old self.new }
         ensures error { OnErr result (HasSameCache self.old self.new) }
         ensures memory { IfErr result IsMemory }
@@ -124,7 +116,7 @@ impl<I: Index> IndexCache<I> {
         if self.cached_answer(registry.as_str(), name).is_some() {
             return Ok(());
         }
-        let answer = match self.index.look(alloc, registry, name) {
+        let answer = match look_shared(alloc, registry, name, &mut self.index) {
             Ok(answer) => answer,
             Err(error) => return Err(error),
         };

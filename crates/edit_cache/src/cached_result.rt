@@ -1,25 +1,26 @@
 //! A cached result of an index, with the ranking of its entries once that is made.
-ghost use Rattle.std.specs.Prelude.{◌≡◌, IfErr, OnOk, OnErr};
+ghost use Rattle.std.specs.Prelude.{◌≡◌, IfErr, IfOk, OnOk, OnErr, option_copied};
 ghost use Rattle.edit_base.specs.Errors.{IsMemory};
-ghost use Rattle.edit_cache.specs.CachedAnswer.{FitsAnswer, FitsAnswer-prop, IsRanked};
+ghost use Rattle.edit_cache.specs.CachedAnswer.{FitsAnswer, FitsAnswer-prop, IsRanked, krate_in};
 
 use crate::ranking::Ranked;
 use edit_base::errors::CargoResult;
 use edit_sources::index::IndexKrate;
 use edit_version::{Level, Requirement, RustVersion};
-use std::alloc::Global;
+use std::alloc::{AllocError, Global};
+use std::rc::Rc;
 
 /// A cached result of an index, with the ranking of its entries once that is made.
 #[derive(Debug, Drop)]
 pub struct CachedAnswer {
-    pub answer: Option<IndexKrate>,
+    pub answer: Option<Rc<IndexKrate>>,
     pub ranked: Option<Ranked>,
-    pub ghost fits: { FitsAnswer answer ranked } by { FitsAnswer-prop answer ranked },
+    pub ghost fits: { FitsAnswer (krate_in answer) ranked } by { FitsAnswer-prop (krate_in answer) ranked },
 }
 
 impl CachedAnswer {
     /// Returns a result without a ranking.
-    pub(crate) fn new(answer: Option<IndexKrate>) -> CachedAnswer
+    pub(crate) fn new(answer: Option<Rc<IndexKrate>>) -> CachedAnswer
         ensures answer { result.answer ≡ answer }
     {
         CachedAnswer {
@@ -28,10 +29,33 @@ impl CachedAnswer {
         }
     }
 
+    /// The entries; `None` where the index has no crate of that name.
+    pub(crate) fn krate(&self) -> Option<&IndexKrate>
+        ensures { option_copied result ≡ krate_in self.now.answer }
+    {
+        match &self.answer {
+            Some(shared) => Some(shared.as_ref()),
+            None => None,
+        }
+    }
+
+    /// The entries, shared with this result.
+    pub(crate) fn shared(&self) -> Result<Option<Rc<IndexKrate>>, AllocError>
+        ensures { IfOk result (λ shared. krate_in shared ≡ krate_in self.now.answer) }
+    {
+        match &self.answer {
+            Some(shared) => {
+                let shared = shared.clone()?;
+                Ok(Some(shared))
+            }
+            None => Ok(None),
+        }
+    }
+
     /// Ranks the entries, unless that is done.
     pub(crate) fn rank(&mut self, alloc: Global) -> CargoResult<()>
         ensures answer { self.new.answer ≡ self.old.answer }
-        ensures ranked { OnOk result (IsRanked self.new.answer self.new.ranked) }
+        ensures ranked { OnOk result (IsRanked (krate_in self.new.answer) self.new.ranked) }
         ensures error { IfErr result IsMemory }
     {
         if self.ranked.is_some() {
@@ -54,7 +78,7 @@ impl CachedAnswer {
         level: Option<Level>,
     ) -> CargoResult<()>
         ensures answer { self.new.answer ≡ self.old.answer }
-        ensures ranked { OnOk result (IsRanked self.new.answer self.new.ranked) }
+        ensures ranked { OnOk result (IsRanked (krate_in self.new.answer) self.new.ranked) }
         ensures error { IfErr result IsMemory }
     {
         self.rank(alloc)?;

@@ -22,6 +22,9 @@ returns-in-Some-clause-others g c = λ address name other. elim other [
   | inr apart ↦ grind (arith, text_keys, c.in_ok-insert.ensures.others name apart)
 ]
 
+pub returns-clause-preserved : goal.returns-clause-preserved
+returns-clause-preserved g c = grind (arith, text_keys)
+
 pub returns-clause-others : goal.returns-clause-others
 returns-clause-others g c = λ address name other. elim other [
   | inl apart ↦ grind (arith, text_keys)
