@@ -25,7 +25,7 @@ use Rattle.edit_upgrade.specs.OptionLevels.{level_in}
 use Rattle.edit_upgrade.specs.Decision.{decision, newer, or_else}
 use Rattle.edit_upgrade.specs.Headline.{IsTextOfVersion, KeepsFloor, LatestIsNotLess, Narrows, Reaches, StaysInLevel, StaysWithin}
 use Rattle.edit_upgrade.specs.Inputs.{Setting}
-use Rattle.edit_upgrade.specs.Lookups.{Answer, lookup_at, versions_in}
+use Rattle.edit_upgrade.specs.Lookups.{Answer, answer_in, lookup_at, versions_in}
 use Rattle.edit_upgrade.specs.Records.{RowEntry, row_entries}
 use Rattle.edit_upgrade.specs.Rows.{AreVersionsFor, IsDecided, IsRowOver, Line, case_for, dashes, elsewhere, line_for, at_address}
 use Rattle.edit_upgrade.specs.Upgraded.{HasRows, IsRow, basis_of}
@@ -49,7 +49,7 @@ pub offered-valid : (s : Setting) (e : RowEntry) (xs : List Parts) → AreVersio
 offered-valid s e xs (at_address address needs are) =
     subst (λ (ys : List Parts). All IsValid ys) (sym are)
     (versions-valid s.rust
-    (option_map (λ lookup. answer_of lookup.answer) (lookup_at s.lookups (serialize address) e.name)))
+    (option_map (λ lookup. answer_of (answer_in lookup)) (lookup_at s.lookups (serialize address) e.name)))
 offered-valid s e xs (elsewhere other none) =
     subst (λ (ys : List Parts). All IsValid ys) (sym none) (All-nil IsValid)
 

@@ -11,7 +11,7 @@ use Rattle.edit_store.specs.Store.{IsRaisedCount}
 use Rattle.url.specs.Parts as url
 use Rattle.url.specs.Parts.{serialize}
 use Rattle.edit_upgrade.specs.LookupSteps.{IsLookupMade, IsLookupError, IsWalkState, IsStep, Leaves, PairSet}
-use Rattle.edit_upgrade.specs.Lookups.{AddsNeeded, Answer, AreLookups, IsIndexAnswer, CachedAnswers, is_lookup_at, lookup_at}
+use Rattle.edit_upgrade.specs.Lookups.{AddsNeeded, Answer, AreLookups, IsIndexAnswer, CachedAnswers, answer_in, is_lookup_at, lookup_at}
 use Rattle.edit_upgrade.specs.declared.upgrade.Look.{Look}
 use Rattle.edit_upgrade.proofs.Bytes.{both-true, same-eq}
 use Rattle.edit_upgrade.proofs.LookupSeriesLemmas.{at-pair, find-one, lookup_at-more, lookups-again, lookups-more, lookups-start}
@@ -124,7 +124,7 @@ lookup-with address name first last now next lookup h l = record {
   given = elim l.given [
     | inl was ↦ inl was
     | inr gave ↦ inr
-        ((h lookup.registry name (Ok (answer_of lookup.answer))).0 gave)
+        ((h lookup.registry name (Ok (answer_of (answer_in lookup)))).0 gave)
   ];
   others = l.others;
   stays = l.stays;
@@ -239,12 +239,12 @@ find-some p (y ∷ ys) h = elim (cases_Bool (p y)) [
 pub answered : (Needed : List ℕ → List ℕ → Type 0) (first : Outcomes) (old now : CachedAnswers) (made : List Look)
     (address n : List ℕ)
     → AreLookups Needed first old now made → Needed address n → (x : Look)
-    × (lookup_at made address n ≡ Some x) × (now address n ≡ Some (answer_of x.answer))
+    × (lookup_at made address n ≡ Some x) × (now address n ≡ Some (answer_of (answer_in x)))
 answered Needed first old now made address n m need =
     let f = find-some (is_lookup_at address n) made (m.complete address n need) in
     let b = both-true (bytes_eq (serialize f.0.registry) address) (bytes_eq (string_bytes f.0.name) n) f.2 in
     let cached = All-contains (λ lookup. now (serialize lookup.registry) (string_bytes lookup.name)
-    ≡ Some (answer_of lookup.answer)) made f.0 m.as_cached f.3 in (
+    ≡ Some (answer_of (answer_in lookup))) made f.0 m.as_cached f.3 in (
       f.0,
       f.1,
       ap (λ (a : List ℕ). now a n) (sym (same-eq (serialize f.0.registry) address b.0))

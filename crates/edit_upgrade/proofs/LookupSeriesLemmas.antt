@@ -9,7 +9,7 @@ use Rattle.std.proofs.lemmas.List.Elements.{All-cons, All-head, All-nil, All-pus
 use Rattle.edit_sources.specs.Index.{Outcomes, answer_of}
 use Rattle.url.specs.Parts.{serialize}
 use Rattle.edit_upgrade.specs.LookupSteps.{IsLookupMade}
-use Rattle.edit_upgrade.specs.Lookups.{AreApart, AreLookups, CachedAnswers, is_lookup_at, lookup_at}
+use Rattle.edit_upgrade.specs.Lookups.{AreApart, AreLookups, CachedAnswers, answer_in, is_lookup_at, lookup_at}
 use Rattle.edit_upgrade.specs.declared.upgrade.Look.{Look}
 use Rattle.edit_upgrade.proofs.Bytes.{same-refl, same-swap}
 
@@ -104,9 +104,9 @@ lookups-start Needed gives old nothing = record {
   complete = λ a n h. absurd (nothing a n h);
   needed = All-nil (λ lookup. Needed (registry_of lookup) (name_in lookup));
   once = tt;
-  as_cached = All-nil (λ lookup. old (registry_of lookup) (name_in lookup) ≡ Some (answer_of lookup.answer));
-  given = All-nil (λ lookup. (old (registry_of lookup) (name_in lookup) ≡ Some (answer_of lookup.answer))
-      ⊎ gives lookup.registry (name_in lookup) (Ok (answer_of lookup.answer)));
+  as_cached = All-nil (λ x. old (registry_of x) (name_in x) ≡ Some (answer_of (answer_in x)));
+  given = All-nil (λ x. (old (registry_of x) (name_in x) ≡ Some (answer_of (answer_in x)))
+      ⊎ gives x.registry (name_in x) (Ok (answer_of (answer_in x))));
   others = λ a n h. refl;
 }
 
@@ -174,16 +174,17 @@ lookups-more P Q gives old now next made lookup address name wider cases pair no
           (subst (λ (a : List ℕ). Q a (name_in lookup)) (sym l.at)
           (subst (λ (n : List ℕ). Q address n) (sym l.of_name) pair));
       once = apart-more address name lookup l.at l.of_name made far m.once;
-      as_cached = All-push (λ x. next (registry_of x) (name_in x) ≡ Some (answer_of x.answer)) made lookup
-          (λ k d h. l.others _ _ (far k d h) ∙ m.as_cached k d h)
+      as_cached = All-push (λ x. next (registry_of x) (name_in x) ≡ Some (answer_of (answer_in x)))
+          made lookup (λ k d h. l.others _ _ (far k d h) ∙ m.as_cached k d h)
           (ap (λ (a : List ℕ). next a (name_in lookup)) l.at ∙ ap (λ (n : List ℕ). next address n) l.of_name
           ∙ l.cached);
-      given = All-push (λ x. (old (registry_of x) (name_in x) ≡ Some (answer_of x.answer))
-          ⊎ gives x.registry (name_in x) (Ok (answer_of x.answer))) made lookup m.given
+      given = All-push (λ x. (old (registry_of x) (name_in x) ≡ Some (answer_of (answer_in x)))
+          ⊎ gives x.registry (name_in x) (Ok (answer_of (answer_in x)))) made lookup m.given
           (elim l.given [
             | inl was ↦ inl (ap (λ (a : List ℕ). old a (name_in lookup)) l.at
                 ∙ ap (λ (n : List ℕ). old address n) l.of_name ∙ sym (m.others address name none) ∙ was)
-            | inr gave ↦ inr (subst (λ (n : List ℕ). gives lookup.registry n (Ok (answer_of lookup.answer)))
+            | inr gave ↦ inr
+                (subst (λ (n : List ℕ). gives lookup.registry n (Ok (answer_of (answer_in lookup))))
                 (sym l.of_name) gave)
           ]);
       others = λ a n h.

@@ -11,7 +11,7 @@ use Rattle.url.specs.Parts as url
 use Rattle.url.specs.Parts.{serialize}
 use Rattle.edit_upgrade.specs.Causes.{IsPassed}
 use Rattle.edit_upgrade.specs.LookupSteps.{AreAllCached, AreSteps, IsEntryStep, IsWalkState, IsStep, PairSet, Stays, further, start}
-use Rattle.edit_upgrade.specs.Lookups.{Answer, CachedAnswers}
+use Rattle.edit_upgrade.specs.Lookups.{Answer, CachedAnswers, answer_in}
 use Rattle.edit_upgrade.specs.Records.{RowEntry, Source, at_folder, at_registry, at_repository}
 use Rattle.edit_upgrade.specs.Rows.{Needs, is_elsewhere}
 use Rattle.edit_upgrade.specs.Upgraded.{IsNeededFor, IsNeededIn}
@@ -163,7 +163,7 @@ step-here : (address name : List ℕ) (gives : Outcomes) (now next : CachedAnswe
     → IsStep address name gives now next made more pairs then_pairs → IsSome (next address name)
 step-here address name gives now next made more pairs then_pairs cached step = elim step.done [
   | inl done ↦ subst (λ (k : CachedAnswers). IsSome (k address name)) (sym done.2) (cached address name done.0)
-  | inr one ↦ some-cached (next address name) (answer_of one.0.answer) one.3.cached
+  | inr one ↦ some-cached (next address name) (answer_of (answer_in one.0)) one.3.cached
 ]
 
 step-cached : (address name : List ℕ) (gives : Outcomes) (now next : CachedAnswers) (made more : List Look)

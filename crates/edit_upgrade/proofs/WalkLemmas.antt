@@ -16,7 +16,7 @@ use Rattle.url.specs.Parts.{serialize}
 use Rattle.edit_upgrade.specs.Causes.{IsPassed, StopsAt, StopsFirst}
 use Rattle.edit_upgrade.specs.Causes.StopsAt.{no_address, no_answer}
 use Rattle.edit_upgrade.specs.LookupSteps.{IsAt, IsEntryStep, IsLookupError, IsStep, Leaves, PairSet, Stays}
-use Rattle.edit_upgrade.specs.Lookups.{Answer, AreLookups, CachedAnswers, cached_basis, lookup_versions, versions_in}
+use Rattle.edit_upgrade.specs.Lookups.{Answer, AreLookups, CachedAnswers, answer_in, cached_basis, lookup_versions, versions_in}
 use Rattle.edit_upgrade.specs.Records.{RowEntry, at_registry}
 use Rattle.edit_upgrade.specs.Rows.{AreDecided, AreVersionsFor, Basis, IsRowBy, IsRowOver, Line, Needs, elsewhere, is_elsewhere, at_address}
 use Rattle.edit_upgrade.specs.Upgraded.{IsNeededFor, IsNeededIn}
@@ -123,7 +123,7 @@ rows-from Needed i o rust configs first old now made es ls wider m d =
     let f = answered Needed first old now made (serialize address) x.name m
     (wider (serialize address) x.name (of-entry configs es x address x.name c needs)) in
     ap (versions_in rust) f.2 ∙ sym (ap (λ (y : Option Look). versions_in rust
-    (option_map (λ lookup. answer_of lookup.answer) y)) f.1)) es (All-contains_itself es)) d
+    (option_map (λ lookup. answer_of (answer_in lookup)) y)) f.1)) es (All-contains_itself es)) d
 
 -- ---- the first entry that stops a walk
 

@@ -9,7 +9,7 @@ use Rattle.edit_store.specs.Store.{IsRaisedCount}
 use Rattle.edit_sources.specs.declared.config.Config.{Config}
 use Rattle.url.specs.Parts as url
 use Rattle.url.specs.Parts.{serialize}
-use Rattle.edit_upgrade.specs.Lookups.{AddsNeeded, AreLookups, CachedAnswers, lookup_at}
+use Rattle.edit_upgrade.specs.Lookups.{AddsNeeded, AreLookups, CachedAnswers, answer_in, lookup_at}
 use Rattle.edit_upgrade.specs.Records.{RowEntry, at_registry}
 use Rattle.edit_upgrade.specs.Rows.{is_elsewhere}
 use Rattle.edit_upgrade.specs.declared.upgrade.Look.{Look}
@@ -24,9 +24,9 @@ pub record IsLookupMade (address name : List ℕ) (gives : Outcomes) (old new : 
     (lookup : Look) : Type 0 where
   pub at : serialize lookup.registry ≡ address
   pub of_name : string_bytes lookup.name ≡ name
-  pub cached : new address name ≡ Some (answer_of lookup.answer)
-  pub given : (old address name ≡ Some (answer_of lookup.answer))
-      ⊎ gives lookup.registry name (Ok (answer_of lookup.answer))
+  pub cached : new address name ≡ Some (answer_of (answer_in lookup))
+  pub given : (old address name ≡ Some (answer_of (answer_in lookup)))
+      ⊎ gives lookup.registry name (Ok (answer_of (answer_in lookup)))
   pub others : (a n : List ℕ) → (bytes_eq address a && bytes_eq name n) ≡ false → new a n ≡ old a n
   pub stays : Stays old new
 

@@ -4,10 +4,12 @@ use Rattle.std.specs.Str.{bytes_eq}
 use Rattle.edit_version.specs.IndexEntry.{IndexEntry}
 use Rattle.edit_version.specs.Admissible.{admissible_in}
 use Rattle.edit_version.specs.RustVersions.{Numbers}
+use Rattle.edit_cache.specs.CachedAnswer.{krate_in}
 use Rattle.edit_cache.specs.IndexCache.{cached_answer_at}
 use Rattle.edit_sources.specs.Index.{Outcomes, answer_of}
 use Rattle.edit_cache.specs.declared.cache.IndexCache.{IndexCache}
 use Rattle.edit_sources.specs.declared.config.Config.{Config}
+use Rattle.edit_sources.specs.declared.index.IndexKrate.{IndexKrate}
 use Rattle.semver.specs.Parse.{Parts}
 use Rattle.url.specs.Parts as url
 use Rattle.url.specs.Parts.{serialize}
@@ -27,6 +29,10 @@ CachedAnswers = List ℕ → List ℕ → Option Answer
 abbrev pub cached_by : {I : Type 0} → IndexCache I → CachedAnswers
 cached_by c address name = option_map answer_of (cached_answer_at c address name)
 
+-- the entries that a lookup found, if the index has the crate (own)
+abbrev pub answer_in : Look → Option IndexKrate
+answer_in lookup = krate_in lookup.answer
+
 -- the lookup was made at this address for this name
 abbrev pub is_lookup_at : List ℕ → List ℕ → Look → Bool
 is_lookup_at address name lookup =
@@ -44,7 +50,7 @@ versions_in rust other = []
 -- the admitted versions in the lookups of a name at an address
 abbrev pub lookup_versions : Option Numbers → List Look → List ℕ → List ℕ → List Parts
 lookup_versions rust lookups address name =
-    versions_in rust (option_map (λ lookup. answer_of lookup.answer) (lookup_at lookups address name))
+    versions_in rust (option_map (λ lookup. answer_of (answer_in lookup)) (lookup_at lookups address name))
 
 -- no two lookups have the same address and name
 abbrev pub AreApart : List Look → Type 0
@@ -62,10 +68,11 @@ pub record AreLookups (Needed : List ℕ → List ℕ → Type 0) (gives : Outco
   pub once : AreApart lookups
   pub as_cached : All
       (λ lookup. new (serialize lookup.registry) (string_bytes lookup.name)
-      ≡ Some (answer_of lookup.answer)) lookups
+      ≡ Some (answer_of (answer_in lookup))) lookups
   pub given : All
-      (λ lookup. (old (serialize lookup.registry) (string_bytes lookup.name) ≡ Some (answer_of lookup.answer))
-      ⊎ gives lookup.registry (string_bytes lookup.name) (Ok (answer_of lookup.answer))) lookups
+      (λ lookup. (old (serialize lookup.registry) (string_bytes lookup.name)
+      ≡ Some (answer_of (answer_in lookup)))
+      ⊎ gives lookup.registry (string_bytes lookup.name) (Ok (answer_of (answer_in lookup)))) lookups
   pub others : (address name : List ℕ) → lookup_at lookups address name ≡ None → new address name
       ≡ old address name
 

@@ -1,5 +1,5 @@
 //! The lookups of a plan.
-ghost use Rattle.std.specs.Prelude.{◌≡◌, ◌⊎◌, ◌&&◌, if◌then◌else◌, ℕ, List, Some, None, Ok, true, false, IfErr, IfOk, IfSome, IsSome, OnOk, option_copied, string_bytes};
+ghost use Rattle.std.specs.Prelude.{◌≡◌, ◌⊎◌, ◌&&◌, if◌then◌else◌, ℕ, List, Some, None, Ok, true, false, IfErr, IfOk, IfSome, IsSome, OnOk, string_bytes};
 ghost use Rattle.std.specs.Str.{bytes_eq};
 ghost use Rattle.edit_base.specs.Errors.{IsMemory};
 ghost use Rattle.edit_sources.specs.Index.{answer_of};
@@ -7,35 +7,20 @@ ghost use Rattle.edit_sources.specs.Withheld.{withheld_of};
 ghost use Rattle.edit_cache.specs.IndexCache.{index_of, krate_at};
 ghost use Rattle.url.specs.Parts.{serialize};
 ghost use Rattle.edit_upgrade.specs.LookupSteps.{IsAt, IsLookupMade, IsLookupError, IsStep, Leaves};
-ghost use Rattle.edit_upgrade.specs.Lookups.{cached_by};
+ghost use Rattle.edit_upgrade.specs.Lookups.{answer_in, cached_by};
 ghost use Rattle.edit_upgrade.specs.PairSets.{holds_pair};
 
 use crate::names::{Names, add_name};
 use crate::upgrade::Look;
 use edit_base::CargoResult;
 use edit_cache::cache::IndexCache;
-use edit_sources::index::{Index, IndexKrate};
+use edit_sources::index::Index;
 use std::alloc::{AllocError, Global};
 use std::collections::BTreeMap;
 use url::Url;
 
 /// Pairs of a registry's address and a crate's name, without duplicates.
 pub(crate) type PairSet = BTreeMap<String, Names>;
-
-/// Copies an answer of the index into newly allocated memory.
-fn copied_answer(alloc: Global, answer: Option<&IndexKrate>) -> CargoResult<Option<IndexKrate>>
-    ensures ok { IfOk result (λ o. answer_of o ≡ answer_of (option_copied answer.entry)) }
-    ensures withheld { IfOk result (λ o. withheld_of o ≡ withheld_of (option_copied answer.entry)) }
-    ensures error { IfErr result IsMemory }
-{
-    match answer {
-        Some(krate) => {
-            let copy = krate.try_clone(alloc)?;
-            Ok(Some(copy))
-        }
-        None => Ok(None),
-    }
-}
 
 /// Queries the index for a crate, unless the answer is cached.
 fn fetch_one<I: Index>(
@@ -62,7 +47,7 @@ fn fetch_one<I: Index>(
     index.fetch(alloc, registry, name)
 }
 
-/// The record of a lookup, with the cached answer.
+/// The record of a lookup, which shares the cached answer.
 fn record_lookup<I: Index>(
     alloc: Global,
     registry: &Url,
@@ -74,12 +59,12 @@ fn record_lookup<I: Index>(
     ensures same { IfOk result (λ l. l.registry ≡ registry.now) }
     ensures name { IfOk result (λ l. string_bytes l.name ≡ name.now) }
     ensures preserved { IfOk result
-        (λ l. cached_by index.now (serialize registry.now) name.now ≡ Some (answer_of l.answer)) }
-    ensures withheld { IfOk result (λ l. withheld_of l.answer
+        (λ l. cached_by index.now (serialize registry.now) name.now ≡ Some (answer_of (answer_in l))) }
+    ensures withheld { IfOk result (λ l. withheld_of (answer_in l)
         ≡ withheld_of (krate_at index.now (serialize registry.now) name.now)) }
     ensures error { IfErr result IsMemory }
 {
-    let answer = copied_answer(alloc, index.cached_krate(registry, name))?;
+    let answer = index.shared_krate(registry, name)?;
     Ok(Look {
         registry: registry.clone()?,
         name: String::from_str(alloc, name)?,

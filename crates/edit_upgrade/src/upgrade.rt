@@ -3,6 +3,7 @@
 pub use crate::decision::options::Options;
 use edit_report::{Output, Row};
 use edit_sources::index::IndexKrate;
+use std::rc::Rc;
 use url::Url;
 
 /// A lookup: what an index answered for a crate's name at a registry's address.
@@ -10,7 +11,8 @@ use url::Url;
 pub struct Look {
     pub registry: Url,
     pub name: String,
-    pub answer: Option<IndexKrate>,
+    /// The entries, shared with the cache of the index; `None` where the index has no crate of that name.
+    pub answer: Option<Rc<IndexKrate>>,
 }
 
 /// A warning about an entry, beside its row.
