@@ -9,6 +9,7 @@ use Rattle.url.specs.Parts.{serialize}
 use Rattle.edit_lookups.specs.UserinfoAddresses.{strip_userinfo}
 use Rattle.edit_sources.specs.Withheld.{nothing}
 use Rattle.edit_sources.specs.declared.withheld.Withheld.{Withheld}
+use Rattle.edit_upgrade.specs.Lookups.{answer_in}
 use Rattle.edit_upgrade.specs.UpdateCalls.{is_among}
 use Rattle.edit_upgrade.specs.declared.decision.options.Options.{Options}
 use Rattle.edit_upgrade.specs.declared.upgrade.Look.{Look}
@@ -19,7 +20,7 @@ use Rattle.edit_shown.specs.declared.held_back.HeldBack.{HeldBack}
 
 -- what was held back of the crate of a lookup (own)
 abbrev pub withheld_at : Look → Withheld
-withheld_at lookup = option_map_or (λ krate. krate.withheld) lookup.answer nothing
+withheld_at lookup = option_map_or (λ krate. krate.withheld) (answer_in lookup) nothing
 
 -- whether versions were held back for this cause (own)
 abbrev pub has_cause : Cause → Withheld → Bool
