@@ -13,7 +13,7 @@ use Rattle.edit_metadata.specs.declared.input.Input.{Input}
 use Rattle.edit_sources.specs.Index.{answer_of}
 use Rattle.edit_sources.specs.Names.{is_crate_name}
 use Rattle.edit_sources.specs.declared.config.Config.{Config}
-use Rattle.edit_upgrade.specs.Lookups.{Answer}
+use Rattle.edit_upgrade.specs.Lookups.{Answer, answer_in}
 use Rattle.edit_upgrade.specs.Upgraded.{IsNeeded}
 use Rattle.edit_upgrade.specs.declared.upgrade.Look.{Look}
 use Rattle.edit_upgrade.specs.declared.upgrade.UpgradePlan.{UpgradePlan}
@@ -52,7 +52,8 @@ lines_refused o inputs configs plan e planned (inl memory) = memory
 lines_refused o inputs configs plan e planned (inr bad) =
     absurd (true≢false (sym bad.1
     ∙ list_any_none (λ (lookup : Look). not (is_crate_name (string_bytes lookup.name))) plan.looks.items
-    (λ k d within. ap not (named_at (get_or plan.looks.items k d) (answer_of (get_or plan.looks.items k d).answer)
+    (λ k d within. ap not (named_at (get_or plan.looks.items k d)
+    (answer_of (answer_in (get_or plan.looks.items k d)))
     (planned.is.lookups.given k d within)))))
 
 -- ---- causes
