@@ -14,6 +14,7 @@ use Rattle.json.specs.Written.{PlainBetween}
 use Rattle.json.proofs.Printed.Numbers.{in_word-ended, lex-number}
 use Rattle.json.proofs.Printed.Plain.{escape_on_plain}
 use Rattle.json.proofs.Printed.Strings.{content-escape, lex-escape}
+use Rattle.edit_json.specs.Taken.{Follows}
 
 -- ---- the first bytes of a text
 
@@ -129,11 +130,6 @@ lex_blank r = refl
 
 -- ---- what follows a value
 
-pub record Follows (t r : List ℕ) : Type 0 where
-  pub tokens : punctuate after_value (lex between t) ≡ tokens r
-  pub delimited : ends_word t ≡ true
-  pub no_key : begins_colon (lex between t) ≡ false
-
 pub at_the_end : (t : List ℕ) → length t ≡ 0 → Follows t t
 unfolding lex punctuate
 at_the_end [] e = record { tokens = refl; delimited = refl; no_key = refl }
@@ -170,10 +166,9 @@ unfolding lex punctuate
 comma_at t r e = record { tokens = e; delimited = refl; no_key = refl }
 
 -- behind a comma and blanks stands a string, an array or an object
-pub at_comma : (t r : List ℕ) → 1 ≤ length t → get_or t 0 0 ≡ 44 → lex between r ≡ lex between (behind 1 t) → 1 ≤ length r
-    → (get_or r 0 0 ≡ 34) ⊎ ((get_or r 0 0 ≡ 123) ⊎ (get_or r 0 0 ≡ 91)) → Follows t r
-at_comma t r some e same begins h =
-    subst (λ x. Follows x r) (sym (one_byte t 44 some e)) (comma_at (behind 1 t) r (ap (punctuate after_comma) (sym same) ∙ may_follow r begins h))
+pub at_comma : (t r : List ℕ) → lex between t ≡ lex between r → 1 ≤ length r
+    → (get_or r 0 0 ≡ 34) ⊎ ((get_or r 0 0 ≡ 123) ⊎ (get_or r 0 0 ≡ 91)) → Follows (44 ∷ t) r
+at_comma t r same begins h = comma_at t r (ap (punctuate after_comma) same ∙ may_follow r begins h)
 
 -- ---- no token
 

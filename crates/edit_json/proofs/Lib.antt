@@ -5,4 +5,6 @@ pub mod PassedLemmas
 pub mod PlainRuns
 pub mod PutMemberLemmas
 pub mod RefusedLemmas
+pub mod TakenLemmas
+pub mod TakenValueLemmas
 pub mod ValueLemmas

@@ -1,13 +1,15 @@
 -- The front of a JSON string that was passed, a byte or an escape at a time.
-use Rattle.std.proofs.Common.{◌≡◌, ℕ, suc, ◌+◌, ◌≤◌, Bool, true, false, cond, ◌==◌, ◌||◌, ◌⊎◌, inl, inr, length, get_or, List, [], ◌∷◌, Some, drop, refl, sym, subst, ap, ◌∙◌, arith}
+use Rattle.std.proofs.Common.{◌≡◌, ℕ, suc, ◌+◌, ◌≤◌, Bool, true, false, cond, ◌==◌, ◌||◌, ◌⊎◌, inl, inr, length, get_or, List, [], ◌∷◌, drop, refl, subst, ap, ◌∙◌, arith}
 use Rattle.std.proofs.lemmas.Bool.{eqb-false, ltb-false, not-true, or_parts, ne_eqb, le-ltb}
 use Rattle.std.specs.List.{prefix_len}
-use Rattle.json.specs.Lex.{Lexeme, Mode, between, in_string, lex, lex_byte, operator, other, space}
+use Rattle.json.specs.Lex.{Lexeme, Mode, in_string, lex, lex_byte, operator, other, space}
 use Rattle.json.specs.Run.{is_plain, is_stop}
 use Rattle.json.specs.Text.{content, plain, prepend, short_escape}
 use Rattle.json.specs.Word.{is_operator, is_space}
 use Rattle.edit_json.specs.Passed.{Passed}
+use Rattle.edit_json.specs.Taken.{ClosesString, Takes}
 use Rattle.edit_json.proofs.LexemeLemmas.{behind, two_bytes}
+use Rattle.edit_json.proofs.TakenLemmas.{takes_both, takes_nothing}
 
 pub nothing_passed : (t : List ℕ) → Passed t t
 nothing_passed t = record { lexed = refl; read = λ s e. (s, e) }
@@ -42,16 +44,17 @@ plain_byte x r e =
       read = λ s found. (x ∷ s, plain_read x r q b (ltb-false x 32 none.1) ∙ ap (prepend (x ∷ [])) found);
     }
 
-plain_more : (p : Bool) (x : ℕ) (xs : List ℕ) (n : ℕ) → is_plain x ≡ p → Passed xs (drop n xs) → Passed (x ∷ xs) (drop (cond p (1 + n) 0) (x ∷ xs))
+plain_more : (p : Bool) (x : ℕ) (xs : List ℕ) (n : ℕ) → is_plain x ≡ p → Takes Passed xs (drop n xs) → Takes Passed (x ∷ xs) (drop (cond p (1 + n) 0) (x ∷ xs))
 plain_more true x xs n e more =
     let next : suc n ≡ 1 + n = omega arith in
-    subst (λ k. Passed (x ∷ xs) (drop k (x ∷ xs))) next (passed_both (x ∷ xs) xs (drop n xs) (plain_byte x xs e) more)
-plain_more false x xs n e more = nothing_passed (x ∷ xs)
+    let first : Takes Passed (x ∷ xs) xs = record { front = x ∷ []; whole = refl; local = λ other same. plain_byte x other e } in
+    subst (λ k. Takes Passed (x ∷ xs) (drop k (x ∷ xs))) next (takes_both Passed Passed Passed (x ∷ xs) xs (drop n xs) first more passed_both)
+plain_more false x xs n e more = takes_nothing Passed (x ∷ xs) (λ other same. nothing_passed other)
 
 -- the bytes before the first quote, backslash or control character
-pub plain_passed : (t : List ℕ) → Passed t (drop (prefix_len is_plain t) t)
-plain_passed [] = nothing_passed []
-plain_passed (x ∷ xs) = plain_more (is_plain x) x xs (prefix_len is_plain xs) refl (plain_passed xs)
+pub plain_taken : (t : List ℕ) → Takes Passed t (drop (prefix_len is_plain t) t)
+plain_taken [] = takes_nothing Passed [] (λ other same. nothing_passed other)
+plain_taken (x ∷ xs) = plain_more (is_plain x) x xs (prefix_len is_plain xs) refl (plain_taken xs)
 
 quote_passed : (r : List ℕ) → Passed (92 ∷ 34 ∷ r) r
 unfolding content lex short_escape
@@ -62,11 +65,11 @@ unfolding content lex short_escape
 backslash_passed r = record { lexed = refl; read = λ s e. (92 ∷ s, ap (prepend (92 ∷ [])) e) }
 
 -- a quote or a backslash that is escaped
-pub escape_passed : (t : List ℕ) → 2 ≤ length t → get_or t 0 0 ≡ 92 → (get_or t 1 0 ≡ 34) ⊎ (get_or t 1 0 ≡ 92) → Passed t (behind 2 t)
-escape_passed t some e (inl f) = subst (λ x. Passed x (behind 2 t)) (sym (two_bytes t 92 34 some e f)) (quote_passed (behind 2 t))
-escape_passed t some e (inr f) = subst (λ x. Passed x (behind 2 t)) (sym (two_bytes t 92 92 some e f)) (backslash_passed (behind 2 t))
+pub escape_taken : (t : List ℕ) → 2 ≤ length t → get_or t 0 0 ≡ 92 → (get_or t 1 0 ≡ 34) ⊎ (get_or t 1 0 ≡ 92) → Takes Passed t (behind 2 t)
+escape_taken t some e (inl f) = record { front = 92 ∷ 34 ∷ []; whole = two_bytes t 92 34 some e f; local = λ other same. quote_passed other }
+escape_taken t some e (inr f) = record { front = 92 ∷ 92 ∷ []; whole = two_bytes t 92 92 some e f; local = λ other same. backslash_passed other }
 
 -- the closing quote
-pub closed : (t r : List ℕ) → Passed t (34 ∷ r) → ((s : List ℕ) × (content plain t ≡ Some s)) × (lex in_string t ≡ lex between r)
+pub closed : (t r : List ℕ) → Passed t (34 ∷ r) → ClosesString t r
 unfolding content lex
 closed t r all = (all.read [] refl, all.lexed)

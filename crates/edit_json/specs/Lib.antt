@@ -1,3 +1,5 @@
 pub mod Passed
 pub mod Reads
+pub mod SkippedValue
 pub mod SmallNumbers
+pub mod Taken

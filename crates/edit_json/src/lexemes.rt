@@ -5,16 +5,16 @@
 //!
 //! A function answers `None` at any other text, also where that is valid JSON. A token is taken together
 //! with what has to stand between it and the next one: a key with its colon, a value with its comma.
-ghost use Rattle.std.specs.Prelude.{◌≡◌, ℕ, ◌≤◌, List, ◌∷◌, true, false, length, map, Some, IfSome};
+ghost use Rattle.std.specs.Prelude.{◌≡◌, ◌≤◌, ◌∷◌, length, map, Some, IfSome};
 ghost use Rattle.std.specs.List.{prefix_len};
 ghost use Rattle.std.specs.Simd.Lanes.{mask_l};
-ghost use Rattle.json.specs.Lex.{after_value, begins_colon, between, in_string, lex, punctuate, tokens};
+ghost use Rattle.json.specs.Lex.{between, in_string, lex, tokens};
 ghost use Rattle.json.specs.Reads.{token_of};
 ghost use Rattle.json.specs.Run.{is_plain, is_stop};
 ghost use Rattle.json.specs.Text.{content, plain};
 ghost use Rattle.json.specs.Token as spec;
-ghost use Rattle.json.specs.Word.{ends_word};
 ghost use Rattle.edit_json.specs.Passed.{Passed};
+ghost use Rattle.edit_json.specs.Taken.{BeginsWith, BeginsWithKey, BeginsWithString, ClosesString, Follows, HasSameLexemes, Takes};
 
 use json::Token;
 use std::simd::prelude::*;
@@ -74,7 +74,7 @@ fn split_string(text: &[u8]) -> Option<(&[u8], &[u8])>
 /// What follows the bytes before the first quote, backslash or control character.
 #[inline(always)]
 fn skip_plain(text: &[u8]) -> &[u8]
-    ensures passed { Passed text.now result.now }
+    ensures passed { Takes Passed text.now result.now }
     ensures shorter { length result.now ≤ length text.now }
 {
     &text[plain_len(text)..]
@@ -83,8 +83,7 @@ fn skip_plain(text: &[u8]) -> &[u8]
 /// What follows a string whose opening quote stands before the text. Of escapes it may have `\"` and `\\`.
 #[inline(always)]
 fn skip_string(text: &[u8]) -> Option<&[u8]>
-    ensures content { IfSome result (λ _. (s : List ℕ) × (content plain text.now ≡ Some s)) }
-    ensures rest { IfSome result (λ rest. lex in_string text.now ≡ lex between rest.now) }
+    ensures closed { IfSome result (λ rest. Takes ClosesString text.now rest.now) }
 {
     let mut rest = skip_plain(text);
     while let [b'\\', b'"' | b'\\', others @ ..] = rest {
@@ -99,7 +98,7 @@ fn skip_string(text: &[u8]) -> Option<&[u8]>
 /// What follows the blanks at the front.
 #[inline(always)]
 fn skip_blanks(text: &[u8]) -> &[u8]
-    ensures same { lex between result.now ≡ lex between text.now }
+    ensures same { Takes HasSameLexemes text.now result.now }
 {
     let mut rest = text;
     while let [b' ', others @ ..] = rest {
@@ -111,10 +110,7 @@ fn skip_blanks(text: &[u8]) -> &[u8]
 /// Skips the comma behind a value, with blanks; a closing bracket stays, and so does the end of the text.
 #[inline(always)]
 fn skip_comma(text: &[u8]) -> Option<&[u8]>
-    ensures tokens { IfSome result
-        (λ rest. punctuate after_value (lex between text.now) ≡ tokens rest.now) }
-    ensures delimited { IfSome result (λ _. ends_word text.now ≡ true) }
-    ensures no_key { IfSome result (λ _. begins_colon (lex between text.now) ≡ false) }
+    ensures follows { IfSome result (λ rest. Takes Follows text.now rest.now) }
 {
     match text {
         [] => Some(text),
@@ -145,6 +141,21 @@ pub(crate) fn split_key(text: &[u8]) -> Option<(&[u8], &[u8])>
     }
 }
 
+/// What follows a key and its colon.
+#[inline(always)]
+pub(crate) fn skip_key(text: &[u8]) -> Option<&[u8]>
+    ensures token { IfSome result (λ rest. Takes BeginsWithKey text.now rest.now) }
+{
+    let [b'"', others @ ..] = text else {
+        return None;
+    };
+    let rest = skip_string(others)?;
+    match rest {
+        [b':', others @ ..] => Some(skip_blanks(others)),
+        _ => None,
+    }
+}
+
 /// A string that is no key, and what follows it.
 #[inline(always)]
 pub(crate) fn split_text(text: &[u8]) -> Option<(&[u8], &[u8])>
@@ -160,8 +171,7 @@ pub(crate) fn split_text(text: &[u8]) -> Option<(&[u8], &[u8])>
 /// What follows a string that is no key.
 #[inline(always)]
 pub(crate) fn skip_text(text: &[u8]) -> Option<&[u8]>
-    ensures tokens { IfSome result
-        (λ rest. (s : List ℕ) × (tokens text.now ≡ spec.string s ∷ tokens rest.now)) }
+    ensures token { IfSome result (λ rest. Takes BeginsWithString text.now rest.now) }
 {
     let [b'"', others @ ..] = text else {
         return None;
@@ -174,7 +184,7 @@ pub(crate) fn skip_text(text: &[u8]) -> Option<&[u8]>
 /// `true`, `false`, `null`, `1` or `2`, and what follows it.
 #[inline(always)]
 pub(crate) fn split_literal<'a>(text: &'a [u8]) -> Option<(Token<'a>, &'a [u8])>
-    ensures tokens { IfSome result (λ p. tokens text.now ≡ token_of p.0 ∷ tokens p.1.now) }
+    ensures token { IfSome result (λ p. Takes (BeginsWith (token_of p.0)) text.now p.1.now) }
 {
     match text {
         [b't', b'r', b'u', b'e', rest @ ..] => Some((Token::Bool(true), skip_comma(rest)?)),
@@ -189,7 +199,7 @@ pub(crate) fn split_literal<'a>(text: &'a [u8]) -> Option<(Token<'a>, &'a [u8])>
 /// What follows the brace that closes an object.
 #[inline(always)]
 pub(crate) fn split_end_object(text: &[u8]) -> Option<&[u8]>
-    ensures tokens { IfSome result (λ rest. tokens text.now ≡ spec.end_object ∷ tokens rest.now) }
+    ensures token { IfSome result (λ rest. Takes (BeginsWith spec.end_object) text.now rest.now) }
 {
     match text {
         [b'}', rest @ ..] => skip_comma(rest),
@@ -200,7 +210,7 @@ pub(crate) fn split_end_object(text: &[u8]) -> Option<&[u8]>
 /// What follows the bracket that closes an array.
 #[inline(always)]
 pub(crate) fn split_end_array(text: &[u8]) -> Option<&[u8]>
-    ensures tokens { IfSome result (λ rest. tokens text.now ≡ spec.end_array ∷ tokens rest.now) }
+    ensures token { IfSome result (λ rest. Takes (BeginsWith spec.end_array) text.now rest.now) }
 {
     match text {
         [b']', rest @ ..] => skip_comma(rest),
@@ -211,7 +221,7 @@ pub(crate) fn split_end_array(text: &[u8]) -> Option<&[u8]>
 /// What follows the brace that opens an object.
 #[inline(always)]
 pub(crate) fn split_begin_object(text: &[u8]) -> Option<&[u8]>
-    ensures tokens { IfSome result (λ rest. tokens text.now ≡ spec.begin_object ∷ tokens rest.now) }
+    ensures token { IfSome result (λ rest. Takes (BeginsWith spec.begin_object) text.now rest.now) }
 {
     match text {
         [b'{', rest @ ..] => Some(rest),
@@ -222,7 +232,7 @@ pub(crate) fn split_begin_object(text: &[u8]) -> Option<&[u8]>
 /// What follows the bracket that opens an array.
 #[inline(always)]
 pub(crate) fn split_begin_array(text: &[u8]) -> Option<&[u8]>
-    ensures tokens { IfSome result (λ rest. tokens text.now ≡ spec.begin_array ∷ tokens rest.now) }
+    ensures token { IfSome result (λ rest. Takes (BeginsWith spec.begin_array) text.now rest.now) }
 {
     match text {
         [b'[', rest @ ..] => Some(rest),

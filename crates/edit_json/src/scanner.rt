@@ -4,18 +4,16 @@
 //! Each function answers `None` at any other text, also where that is valid JSON. Its caller then begins
 //! again with a `json::Reader`.
 ghost use Rattle.std.specs.Prelude.{◌≡◌, ℕ, ◌<◌, List, [], ◌∷◌, length, IfSome, MatchOption, Some, option_map};
-ghost use Rattle.std.specs.Bool.{MatchBool, OnTrue};
-ghost use Rattle.json.specs.Json.{after_end_array, read_key};
+ghost use Rattle.std.specs.Bool.{OnTrue};
+ghost use Rattle.json.specs.Json.{read_key};
 ghost use Rattle.json.specs.Lex.{tokens};
 ghost use Rattle.json.specs.Reads.{token_of};
 ghost use Rattle.json.specs.Token as spec;
 ghost use Rattle.serde_json.specs.Data.{Data, boolean, null, string};
 ghost use Rattle.edit_json.specs.Reads.{ReadsValue};
 
-use crate::lexemes::{
-    skip_text, split_begin_array, split_begin_object, split_end_array, split_end_object, split_key,
-    split_literal, split_text,
-};
+use crate::lexemes::{split_begin_object, split_end_object, split_key, split_literal, split_text};
+use crate::skipped_value::{SkippedValue, skip_new_value, skip_value};
 use json::Token;
 use std::marker::Model;
 
@@ -73,30 +71,6 @@ impl<'a> Scanner<'a> {
         Some(())
     }
 
-    /// Reads the bracket that opens an array.
-    #[inline(always)]
-    fn begin_array(&mut self) -> Option<()>
-        ensures token { IfSome result (λ _. self.old ≡ spec.begin_array ∷ self.new) }
-    {
-        self.rest = split_begin_array(self.rest)?;
-        Some(())
-    }
-
-    /// Takes the bracket that closes an array, if it is next.
-    #[inline(always)]
-    fn take_end_array(&mut self) -> bool
-        ensures end { MatchBool result (after_end_array self.old ≡ Some self.new)
-            (self.new ≡ self.old) }
-    {
-        match split_end_array(self.rest) {
-            Some(rest) => {
-                self.rest = rest;
-                true
-            }
-            None => false,
-        }
-    }
-
     /// Reads a key with its colon; none at the brace that closes the object.
     #[inline(always)]
     pub fn next_key(&mut self) -> Option<Option<&'a [u8]>>
@@ -120,15 +94,6 @@ impl<'a> Scanner<'a> {
         let (text, rest) = split_text(self.rest)?;
         self.rest = rest;
         Some(text)
-    }
-
-    /// Skips a string, which is no key. It may have the escapes `\"` and `\\`.
-    #[inline(always)]
-    fn skip_text(&mut self) -> Option<()>
-        ensures token { IfSome result (λ _. (s : List ℕ) × (self.old ≡ spec.string s ∷ self.new)) }
-    {
-        self.rest = skip_text(self.rest)?;
-        Some(())
     }
 
     /// Reads `true`, `false`, `null`, `1` or `2`.
@@ -186,70 +151,36 @@ impl<'a> Scanner<'a> {
         }
     }
 
-    /// Skips `true`, `false`, `null`, `1` or `2`.
-    #[inline(always)]
-    fn skip_literal(&mut self) -> Option<()>
-        ensures shorter { IfSome result (λ _. length self.new < length self.old) }
-        ensures value { IfSome result
-            (λ _. (depth : ℕ) → (d : Data) × ReadsValue depth self.old d self.new) }
-    {
-        match self.literal() {
-            Some(Token::Bool(_b)) => Some(()),
-            Some(Token::Null) => Some(()),
-            Some(Token::Number("1" | "2")) => Some(()),
-            _ => None,
-        }
-    }
-
     /// Skips a value; `None` also where it is nested deeper than `depth`.
-    #[cycle(skip_value)]
     #[inline(always)]
     pub fn skip_value(&mut self, depth: usize) -> Option<()>
         ensures shorter { IfSome result (λ _. length self.new < length self.old) }
         ensures value { IfSome result (λ _. (d : Data) × ReadsValue depth self.old d self.new) }
     {
-        match self.first() {
-            b'"' => {
-                self.skip_text()?;
-                Some(())
-            }
-            b'[' => self.skip_array(depth),
-            b'{' => self.skip_object(depth),
-            _ => self.skip_literal(),
-        }
-    }
-
-    /// Skips an array, each element as `skip_value` does.
-    #[cycle(skip_value)]
-    #[inline(never)]
-    fn skip_array(&mut self, depth: usize) -> Option<()>
-        ensures shorter { IfSome result (λ _. length self.new < length self.old) }
-        ensures value { IfSome result (λ _. (d : Data) × ReadsValue depth self.old d self.new) }
-    {
-        if depth == 0 {
-            return None;
-        }
-        self.begin_array()?;
-        while !self.take_end_array() {
-            self.skip_value(depth - 1)?;
-        }
+        self.rest = skip_value(self.rest, depth)?;
         Some(())
     }
 
-    /// Skips an object, each value as `skip_value` does.
-    #[cycle(skip_value)]
-    #[inline(never)]
-    fn skip_object(&mut self, depth: usize) -> Option<()>
+    /// Skips a value as `skip_value` does, by one comparison where it has the bytes of `known`. Where it has
+    /// not, `known` is this value afterwards.
+    #[inline(always)]
+    pub fn skip_known_value(
+        &mut self,
+        depth: usize,
+        known: &mut Option<SkippedValue<'a>>,
+    ) -> Option<()>
         ensures shorter { IfSome result (λ _. length self.new < length self.old) }
         ensures value { IfSome result (λ _. (d : Data) × ReadsValue depth self.old d self.new) }
     {
-        if depth == 0 {
-            return None;
+        if let Some(value) = known {
+            if let Some(rest) = value.skip(self.rest, depth) {
+                self.rest = rest;
+                return Some(());
+            }
         }
-        self.begin_object()?;
-        while let Some(_) = self.next_key()? {
-            self.skip_value(depth - 1)?;
-        }
+        let (rest, skipped) = skip_new_value(self.rest, depth)?;
+        *known = skipped;
+        self.rest = rest;
         Some(())
     }
 }

@@ -12,6 +12,7 @@ ghost use Rattle.serde_json.specs.Read.{read};
 ghost use Rattle.std.specs.Str.{IsUtf8};
 
 use crate::line_reader::{Fields, read_fields};
+use crate::line_scanner::SkippedMembers;
 use edit_base::errors::{CargoResult, Error};
 use edit_version::fetch::IndexVersion;
 use json::Scratch;
@@ -74,14 +75,18 @@ pub(crate) fn clone_optional_str(
 }
 
 /// The fields of a line, without building a tree; `None` where the token reader does not accept the line.
-pub(crate) fn line_fields<'a>(bytes: &'a [u8], scratch: &'a mut Scratch) -> Option<Fields<'a>>
+pub(crate) fn line_fields<'a: 's, 's>(
+    bytes: &'a [u8],
+    skipped: &mut SkippedMembers<'a>,
+    scratch: &'s mut Scratch,
+) -> Option<Fields<'s>>
     ensures { IfSome result (λ f. (ms : Members) × IsUtf8 bytes.now
         × (read bytes.now ≡ Some (object ms)) × HasFields f ms) }
 {
     let Ok(text) = simdutf8::compat::from_utf8(bytes) else {
         return None;
     };
-    read_fields(text, scratch)
+    read_fields(text, skipped, scratch)
 }
 
 /// The entry of the fields of a line; `None` where they have no name or no version.
@@ -105,30 +110,32 @@ pub(crate) fn fields_entry(alloc: Global, fields: Fields<'_>) -> CargoResult<Opt
 }
 
 /// Parses a line without building a tree; `None` where the token reader does not accept the line.
-fn entry_from_tokens(
+fn entry_from_tokens<'a>(
     alloc: Global,
-    bytes: &[u8],
+    bytes: &'a [u8],
+    skipped: &mut SkippedMembers<'a>,
     scratch: &mut Scratch,
 ) -> CargoResult<Option<IndexVersion>>
     ensures ok { IfOk result (λ o. IfSome o (λ v. IsIndexLine bytes.now (entry_of v))) }
     ensures error { IfErr result IsMemory }
 {
-    match line_fields(bytes, scratch) {
+    match line_fields(bytes, skipped, scratch) {
         Some(fields) => fields_entry(alloc, fields),
         None => Ok(None),
     }
 }
 
 /// Parses a line: by the token reader, or else by way of a tree.
-fn read_line(
+fn read_line<'a>(
     alloc: Global,
-    bytes: &[u8],
+    bytes: &'a [u8],
     line: usize,
+    skipped: &mut SkippedMembers<'a>,
     scratch: &mut Scratch,
 ) -> CargoResult<IndexVersion>
     ensures { MatchResult result (λ v. IsIndexLine bytes.now (entry_of v)) (IsLineError bytes.now line) }
 {
-    match entry_from_tokens(alloc, bytes, scratch) {
+    match entry_from_tokens(alloc, bytes, skipped, scratch) {
         Ok(Some(entry)) => Ok(entry),
         Ok(None) => entry_from_tree(alloc, bytes, line),
         Err(_) => Err(Error::Memory),
@@ -194,6 +201,7 @@ pub fn read_lines(alloc: Global, bytes: &[u8]) -> CargoResult<Vec<IndexVersion>>
     ensures error { IfErr result (IsLinesError (lines_of bytes.now)) }
 {
     let mut scratch = Scratch::new(alloc);
+    let mut skipped = SkippedMembers::nothing();
     let mut entries = Vec::new(alloc);
     let mut number = 0;
     let mut rest = Some(bytes);
@@ -204,7 +212,7 @@ pub fn read_lines(alloc: Global, bytes: &[u8]) -> CargoResult<Vec<IndexVersion>>
         if is_blank_line(line) {
             continue;
         }
-        match read_line(alloc, line, number, &mut scratch) {
+        match read_line(alloc, line, number, &mut skipped, &mut scratch) {
             Ok(entry) => entries.push(entry)?,
             Err(error) => return Err(error),
         }

@@ -8,7 +8,7 @@ ghost use Rattle.edit_sources.specs.LineFields.{HasFields};
 ghost use Rattle.serde_json.specs.Data.{Data, Members, object, put};
 ghost use Rattle.serde_json.specs.Read.{read};
 
-use crate::line_scanner::scan_fields;
+use crate::line_scanner::{SkippedMembers, scan_fields};
 use edit_json::{read_bool, read_optional_text, read_text, skip_value};
 use json::{Reader, Scratch, Token};
 
@@ -88,11 +88,15 @@ fn read_members<'a>(reader: &mut Reader<'a>) -> Option<Fields<'a>>
 }
 
 /// Parses a line; `None` where it has to be parsed by way of a tree.
-pub(crate) fn read_fields<'a>(text: &'a str, scratch: &'a mut Scratch) -> Option<Fields<'a>>
+pub(crate) fn read_fields<'a: 's, 's>(
+    text: &'a str,
+    skipped: &mut SkippedMembers<'a>,
+    scratch: &'s mut Scratch,
+) -> Option<Fields<'s>>
     ensures value { IfSome result (λ f. (ms : Members)
         × (read text.now ≡ Some (object ms)) × HasFields f ms) }
 {
-    if let Some(fields) = scan_fields(text) {
+    if let Some(fields) = scan_fields(text, skipped) {
         return Some(fields);
     }
     let mut reader = Reader::new(text, scratch).ok()?;

@@ -11,6 +11,7 @@ ghost use Rattle.serde_json.specs.Data.{Data};
 ghost use Rattle.serde_json.specs.Read.{read};
 
 use crate::index_lines::{entry_from_tree, fields_entry, is_blank_line, line_fields, split_line};
+use crate::line_scanner::SkippedMembers;
 use crate::published::{PublishedBefore, is_by, optional_instant, publish_time};
 use crate::withheld::{Withheld, either, of_version};
 use crate::withheld_crates::{WithheldCrates, add_version};
@@ -30,16 +31,17 @@ struct DatedVersion {
 }
 
 /// Parses a line without building a tree; `None` where the token reader does not accept the line.
-fn dated_from_tokens(
+fn dated_from_tokens<'a>(
     alloc: Global,
-    bytes: &[u8],
+    bytes: &'a [u8],
+    skipped: &mut SkippedMembers<'a>,
     scratch: &mut Scratch,
 ) -> CargoResult<Option<DatedVersion>>
     ensures ok { IfOk result (λ o. IfSome o
         (λ v. IsDatedLine bytes.now (entry_of v.entry) v.published)) }
     ensures error { IfErr result IsMemory }
 {
-    let Some(fields) = line_fields(bytes, scratch) else {
+    let Some(fields) = line_fields(bytes, skipped, scratch) else {
         return Ok(None);
     };
     let published = optional_instant(fields.published);
@@ -78,16 +80,17 @@ fn dated_from_tree(alloc: Global, bytes: &[u8], line: usize) -> CargoResult<Date
 }
 
 /// Parses a line: by the token reader, or else by way of a tree.
-fn read_dated_line(
+fn read_dated_line<'a>(
     alloc: Global,
-    bytes: &[u8],
+    bytes: &'a [u8],
     line: usize,
+    skipped: &mut SkippedMembers<'a>,
     scratch: &mut Scratch,
 ) -> CargoResult<DatedVersion>
     ensures { MatchResult result (λ v. IsDatedLine bytes.now (entry_of v.entry) v.published)
         (IsLineError bytes.now line) }
 {
-    match dated_from_tokens(alloc, bytes, scratch) {
+    match dated_from_tokens(alloc, bytes, skipped, scratch) {
         Ok(Some(version)) => Ok(version),
         Ok(None) => dated_from_tree(alloc, bytes, line),
         Err(_) => Err(Error::Memory),
@@ -148,6 +151,7 @@ pub(crate) fn read_published_lines(
     ensures error { IfErr result (IsLinesError (lines_of (published_text bound bytes.now))) }
 {
     let mut scratch = Scratch::new(alloc);
+    let mut skipped = SkippedMembers::nothing();
     let mut lines = PublishedLines {
         entries: Vec::new(alloc),
         withheld: Withheld::nothing(),
@@ -162,7 +166,7 @@ pub(crate) fn read_published_lines(
         if is_blank_line(line) {
             continue;
         }
-        match read_dated_line(alloc, line, number, &mut scratch) {
+        match read_dated_line(alloc, line, number, &mut skipped, &mut scratch) {
             Ok(version) => lines.add(alloc, bound, version)?,
             Err(error) => return Err(error),
         }

@@ -1,6 +1,6 @@
 //! Tests of `edit_json::Scanner`, which reads index lines.
 use crate::assertion_helpers::check_result;
-use edit_json::Scanner;
+use edit_json::{Scanner, SkippedValue};
 use std::process::Abort;
 
 /// A line as registries write it.
@@ -70,4 +70,58 @@ fn skips_values_as_registries_write_them(rt: HostRuntime) {
     assert!(rt; !skips("[\"a\" \"b\"]", 1));
     assert!(rt; !skips("{\"a\"}", 1));
     assert!(rt; !skips("{\"a\":1}1", 1));
+}
+
+/// What is read behind the value at the key of an object, where the value is nested at most so deep.
+fn behind_value<'a>(
+    rt: &impl Abort,
+    text: &'a str,
+    depth: usize,
+    known: &mut Option<SkippedValue<'a>>,
+) -> &'a str {
+    let mut scanner = Scanner::new(text);
+    scanner.begin_object().expect(rt, "a brace");
+    check_result(rt, "the key", key(rt, &mut scanner), "k");
+    match scanner.skip_known_value(depth, known) {
+        Some(()) => key(rt, &mut scanner),
+        None => "no value",
+    }
+}
+
+#[test]
+fn skips_a_value_that_is_known(rt: HostRuntime) {
+    let mut known = None;
+    let rows = [
+        ("the first value", "{\"k\":[[\"a\"]],\"b\":1}", 2, "b"),
+        ("the same again", "{\"k\":[[\"a\"]],\"c\":1}", 2, "c"),
+        (
+            "the same, but too deep",
+            "{\"k\":[[\"a\"]],\"c\":1}",
+            1,
+            "no value",
+        ),
+        (
+            "the same, and longer",
+            "{\"k\":[[\"a\"],[]],\"d\":1}",
+            2,
+            "d",
+        ),
+        ("the front of that", "{\"k\":[[\"a\"]],\"e\":1}", 2, "e"),
+        ("the same as the last member", "{\"k\":[[\"a\"]]}", 2, ""),
+        (
+            "the same before another",
+            "{\"k\":[[\"a\"]],\"f\":1}",
+            2,
+            "f",
+        ),
+        (
+            "the same before an error",
+            "{\"k\":[[\"a\"]]]",
+            2,
+            "no value",
+        ),
+    ];
+    for (row, text, depth, want) in rows {
+        check_result(&rt, row, behind_value(&rt, text, depth, &mut known), want);
+    }
 }

@@ -1,9 +1,9 @@
-use Rattle.std.proofs.Common.{◌≡◌, length}
-use Rattle.json.specs.Lex.{between, lex}
+use Rattle.std.proofs.Common.{length}
+use Rattle.edit_json.specs.Taken.{HasSameLexemes, Takes}
 use Rattle.edit_json.proofs.lexemes.skip_blanks.Given as goal
 
 abbrev pub invariant-loop-rest : goal.invariant-loop-rest
-invariant-loop-rest l = lex between l.rest ≡ lex between l.text
+invariant-loop-rest l = Takes HasSameLexemes l.text l.rest
 
 abbrev pub decreases-loop-rest : goal.decreases-loop-rest
 decreases-loop-rest l = length l.rest

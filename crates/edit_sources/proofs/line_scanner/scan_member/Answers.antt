@@ -45,10 +45,10 @@ returns-then-eq-5-clause-value c =
 
 pub returns-clause-value : goal.returns-clause-value
 returns-clause-value c =
-    let d = c.in_ok-skip_value.ensures.value.0 in
+    let d = c.in_ok-skip_member.ensures.value.0 in
     let not_name : c.args.key.now ≡ codes "name" → ⊥ = grind arith in
     let not_version : c.args.key.now ≡ codes "vers" → ⊥ = grind arith in
     let not_yanked : c.args.key.now ≡ codes "yanked" → ⊥ = grind arith in
     let not_rust : c.args.key.now ≡ codes "rust_version" → ⊥ = grind arith in
     let not_published : c.args.key.now ≡ codes "pubtime" → ⊥ = grind arith in
-    (d, c.in_ok-skip_value.ensures.value.1, λ ms says. put_other_key c.args.fields c.args.key.now ms says d not_name not_version not_yanked not_rust not_published)
+    (d, c.in_ok-skip_member.ensures.value.1, λ ms says. put_other_key c.args.fields c.args.key.now ms says d not_name not_version not_yanked not_rust not_published)

@@ -1,0 +1,47 @@
+-- What is taken off the front of a JSON text, whatever stands behind it.
+use Rattle.std.specs.Prelude.{◌≡◌, ℕ, List, ◌∷◌, ◌++◌, Some, false, take, true}
+use Rattle.json.specs.Lex.{after_value, begins_colon, between, in_string, lex, punctuate, tokens}
+use Rattle.json.specs.Text.{content, plain}
+use Rattle.json.specs.Token.{Token, key, string}
+use Rattle.json.specs.Word.{ends_word}
+use Rattle.serde_json.specs.Data.{Data}
+use Rattle.edit_json.specs.Reads.{ReadsValue}
+
+-- a text and its rest have the relation, and so have the bytes before the rest with any other text behind
+-- them, if that begins with the same byte as the rest or both are empty (own)
+pub record Takes (Relates : List ℕ → List ℕ → Type 0) (text rest : List ℕ) : Type 0 where
+  pub front : List ℕ
+  pub whole : text ≡ front ++ rest
+  pub local : (other : List ℕ) → take 1 other ≡ take 1 rest → Relates (front ++ other) other
+
+-- a text within a string has a content, and the string ends before the rest (own)
+abbrev pub ClosesString : List ℕ → List ℕ → Type 0
+ClosesString text rest =
+    ((s : List ℕ) × (content plain text ≡ Some s)) × (lex in_string text ≡ lex between rest)
+
+-- between tokens the two texts have the same lexemes (own)
+abbrev pub HasSameLexemes : List ℕ → List ℕ → Type 0
+HasSameLexemes text rest = lex between text ≡ lex between rest
+
+-- a text behind a value has the tokens of the rest, and before it may end a literal or a string that is no
+-- key (own)
+pub record Follows (text rest : List ℕ) : Type 0 where
+  pub tokens : punctuate after_value (lex between text) ≡ tokens rest
+  pub delimited : ends_word text ≡ true
+  pub no_key : begins_colon (lex between text) ≡ false
+
+-- the first token of a text, before the tokens of the rest (own)
+abbrev pub BeginsWith : Token → List ℕ → List ℕ → Type 0
+BeginsWith token text rest = tokens text ≡ token ∷ tokens rest
+
+-- the first token of a text is a string (own)
+abbrev pub BeginsWithString : List ℕ → List ℕ → Type 0
+BeginsWithString text rest = (s : List ℕ) × BeginsWith (string s) text rest
+
+-- the first token of a text is a key (own)
+abbrev pub BeginsWithKey : List ℕ → List ℕ → Type 0
+BeginsWithKey text rest = (k : List ℕ) × BeginsWith (key k) text rest
+
+-- the first tokens of a text are those of a value, nested at most this deep (own)
+abbrev pub BeginsWithValue : ℕ → List ℕ → List ℕ → Type 0
+BeginsWithValue depth text rest = (d : Data) × ReadsValue depth (tokens text) d (tokens rest)
