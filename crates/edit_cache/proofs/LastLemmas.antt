@@ -6,7 +6,8 @@ use Rattle.std.specs.Str.{bytes_eq}
 use Rattle.std.proofs.lemmas.Bool.{cases_Bool}
 use Rattle.semver.specs.OrderLaws.{same_text}
 use Rattle.edit_sources.specs.declared.index.IndexKrate.{IndexKrate}
-use Rattle.edit_cache.specs.CachedAnswer.{IsRankedAt, krate_in}
+use Rattle.edit_sources.specs.Index.{shared_in}
+use Rattle.edit_cache.specs.CachedAnswer.{IsRankedAt}
 use Rattle.edit_cache.specs.RegistryAnswers.{first_for, has_last, last_result}
 use Rattle.edit_cache.specs.declared.cached_result.CachedAnswer.{CachedAnswer}
 use Rattle.edit_cache.specs.declared.ranking.Ranked.{Ranked}
@@ -14,7 +15,7 @@ use Rattle.edit_cache.specs.declared.registry_answers.NamedAnswer.{NamedAnswer}
 
 -- the result of the index
 abbrev pub result : Option CachedAnswer → Option (Option IndexKrate)
-result cached = option_map (λ k. krate_in k.answer) cached
+result cached = option_map (λ k. shared_in k.answer) cached
 
 -- the ranking
 abbrev pub ranking : Option CachedAnswer → Option Ranked
@@ -102,7 +103,7 @@ apart-first (Some last) other at name e ne =
 -- the result beside the map is ranked, and so is the result for its crate
 pub ranked-last : (last : Option NamedAnswer) (other : Option CachedAnswer) (name : List ℕ)
     → has_last last name ≡ true
-    → IsRankedAt (option_map (λ l. krate_in l.cached.answer) last) (option_and_then (λ l. l.cached.ranked) last)
+    → IsRankedAt (option_map (λ l. shared_in l.cached.answer) last) (option_and_then (λ l. l.cached.ranked) last)
     → AreRanked (first_for last other name)
 ranked-last None other name e h = cc e
 ranked-last (Some last) other name e h = subst AreRanked (last-first (Some last) other name e) h

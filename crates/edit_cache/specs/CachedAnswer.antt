@@ -1,16 +1,10 @@
 -- The ranking beside a cached result (own).
-use Rattle.std.specs.Prelude.{Option, Some, None, option_map}
-use Rattle.std.specs.declared.alloc.Global.{Global}
-use Rattle.std.specs.declared.rc.Rc.{Rc}
+use Rattle.std.specs.Prelude.{Option, Some, None}
 use Rattle.std.proofs.Props.{props}
 use Rattle.edit_sources.specs.Index.{entries_of}
 use Rattle.edit_cache.specs.Ranking.{IsRanking, ranks_of}
 use Rattle.edit_sources.specs.declared.index.IndexKrate.{IndexKrate}
 use Rattle.edit_cache.specs.declared.ranking.Ranked.{Ranked}
-
--- the entries that a shared result holds (own)
-abbrev pub krate_in : Option (Rc IndexKrate Global) → Option IndexKrate
-krate_in answer = option_map (λ shared. shared.value) answer
 
 -- the ranking, if there is one, is that of the cached entries (own)
 abbrev pub FitsAnswer : Option IndexKrate → Option Ranked → Type 0

@@ -6,9 +6,9 @@ use Rattle.std.specs.BTreeMap.{get_by_text}
 use Rattle.url.specs.Parts.{Parts, serialize}
 use Rattle.edit_base.specs.declared.errors.Error.{Error}
 use Rattle.edit_base.specs.Errors.{number_of, IsMemory}
-use Rattle.edit_sources.specs.Index.{IndexView, Outcomes, SameOutcomes, HasLookupCause, IsOutcomeError, answer_of}
+use Rattle.edit_sources.specs.Index.{IndexView, Outcomes, SameOutcomes, HasLookupCause, IsOutcomeError, answer_of, shared_in}
 use Rattle.edit_sources.specs.declared.index.IndexKrate.{IndexKrate}
-use Rattle.edit_cache.specs.CachedAnswer.{IsRanked, krate_in}
+use Rattle.edit_cache.specs.CachedAnswer.{IsRanked}
 use Rattle.edit_cache.specs.RegistryAnswers.{result_in}
 use Rattle.edit_cache.specs.declared.cache.IndexCache.{IndexCache}
 use Rattle.edit_cache.specs.declared.cached_result.CachedAnswer.{CachedAnswer}
@@ -26,7 +26,7 @@ cached_at cache address name =
 -- the cached result for an address and a name, if there is one (own)
 abbrev pub cached_answer_at : {I : Type 0} → IndexCache I → List ℕ → List ℕ → Option (Option IndexKrate)
 cached_answer_at cache address name =
-    option_map (λ cached. krate_in cached.answer) (cached_at cache address name)
+    option_map (λ cached. shared_in cached.answer) (cached_at cache address name)
 
 -- the cached entries for an address and a name: none where nothing is cached, or where the index has no
 -- crate of that name (own)

@@ -3,7 +3,7 @@ use Rattle.std.specs.Prelude.{ℕ, List, Option, None, Some, Bool, false, if◌t
 use Rattle.std.specs.BTreeMap.{get_by_text}
 use Rattle.std.specs.Str.{bytes_eq}
 use Rattle.edit_sources.specs.declared.index.IndexKrate.{IndexKrate}
-use Rattle.edit_cache.specs.CachedAnswer.{krate_in}
+use Rattle.edit_sources.specs.Index.{shared_in}
 use Rattle.edit_cache.specs.declared.cached_result.CachedAnswer.{CachedAnswer}
 use Rattle.edit_cache.specs.declared.ranking.Ranked.{Ranked}
 use Rattle.edit_cache.specs.declared.registry_answers.NamedAnswer.{NamedAnswer}
@@ -26,7 +26,7 @@ result_in answers name = first_for answers.last (get_by_text answers.others name
 
 -- the result of the index for a crate, if there is one (own)
 abbrev pub result_of : RegistryAnswers → List ℕ → Option (Option IndexKrate)
-result_of answers name = option_map (λ cached. krate_in cached.answer) (result_in answers name)
+result_of answers name = option_map (λ cached. shared_in cached.answer) (result_in answers name)
 
 -- the ranking for a crate, if there is one (own)
 abbrev pub ranking_of : RegistryAnswers → List ℕ → Option Ranked
@@ -34,4 +34,4 @@ ranking_of answers name = option_and_then (λ cached. cached.ranked) (result_in 
 
 -- the name and the result of the index that stand beside the map (own)
 abbrev pub last_result : Option NamedAnswer → Option (List ℕ × Option IndexKrate)
-last_result last = option_map (λ l. (string_bytes l.name, krate_in l.cached.answer)) last
+last_result last = option_map (λ l. (string_bytes l.name, shared_in l.cached.answer)) last

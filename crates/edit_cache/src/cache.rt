@@ -1,16 +1,14 @@
 //! A cache of the results of an index.
-ghost use Rattle.std.specs.Prelude.{◌≡◌, ◌≢◌, ◌⊎◌, ◌↔◌, ℕ, List, Some, None, Ok, IsOk, IsSome, IsTrue, IfOk, IfErr, IfSome, OnOk, OnErr, Option, option_and_then, option_map, option_copied};
-ghost use Rattle.std.specs.BTreeMap.{get_by_text};
+ghost use Rattle.std.specs.Prelude.{◌≡◌, ◌↔◌, ℕ, List, Some, None, Ok, IsOk, IsSome, IsTrue, IfOk, IfErr, IfSome, OnOk, OnErr, Option, option_map, option_copied};
 ghost use Rattle.url.specs.Parts.{serialize};
 ghost use Rattle.edit_base.specs.Errors.{IsMemory};
-ghost use Rattle.edit_sources.specs.Index.{answer_of};
+ghost use Rattle.edit_sources.specs.Index.{answer_of, shared_in};
 ghost use Rattle.edit_cache.specs.IndexCache.{Fetches, IsMissError, Ranks, HasSameCache, HasSameCacheBut, has_version, index_of, cached_answer_at, krate_at, ranking_at, cached_at};
-ghost use Rattle.edit_cache.specs.CachedAnswer.{IsRanked, IsRankedAt, krate_in};
+ghost use Rattle.edit_cache.specs.CachedAnswer.{IsRanked, IsRankedAt};
 
 mod choice_cache;
 mod shared_answers;
 
-use self::shared_answers::look_shared;
 use crate::cached_result::CachedAnswer;
 use crate::ranking::Ranked;
 use crate::registry_answers::RegistryAnswers;
@@ -89,7 +87,7 @@ impl<I: Index> IndexCache<I> {
         answer: Option<Rc<IndexKrate>>,
     ) -> CargoResult<()>
         ensures index { self.new.index ≡ self.old.index }
-        ensures preserved { OnOk result (cached_answer_at self.new address.now name.now ≡ Some (krate_in answer)) }
+        ensures preserved { OnOk result (cached_answer_at self.new address.now name.now ≡ Some (shared_in answer)) }
         ensures others { HasSameCacheBut address.now name.now self.old self.new }
         ensures error { OnErr result (HasSameCache self.old self.new) }
         ensures memory { IfErr result IsMemory }
@@ -116,7 +114,7 @@ impl<I: Index> IndexCache<I> {
         if self.cached_answer(registry.as_str(), name).is_some() {
             return Ok(());
         }
-        let answer = match look_shared(alloc, registry, name, &mut self.index) {
+        let answer = match self.index.look_shared(alloc, registry, name) {
             Ok(answer) => answer,
             Err(error) => return Err(error),
         };

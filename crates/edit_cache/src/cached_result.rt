@@ -1,7 +1,8 @@
 //! A cached result of an index, with the ranking of its entries once that is made.
-ghost use Rattle.std.specs.Prelude.{◌≡◌, IfErr, IfOk, OnOk, OnErr, option_copied};
+ghost use Rattle.std.specs.Prelude.{◌≡◌, IfErr, IfOk, OnOk, option_copied};
 ghost use Rattle.edit_base.specs.Errors.{IsMemory};
-ghost use Rattle.edit_cache.specs.CachedAnswer.{FitsAnswer, FitsAnswer-prop, IsRanked, krate_in};
+ghost use Rattle.edit_sources.specs.Index.{shared_in};
+ghost use Rattle.edit_cache.specs.CachedAnswer.{FitsAnswer, FitsAnswer-prop, IsRanked};
 
 use crate::ranking::Ranked;
 use edit_base::errors::CargoResult;
@@ -15,7 +16,7 @@ use std::rc::Rc;
 pub struct CachedAnswer {
     pub answer: Option<Rc<IndexKrate>>,
     pub ranked: Option<Ranked>,
-    pub ghost fits: { FitsAnswer (krate_in answer) ranked } by { FitsAnswer-prop (krate_in answer) ranked },
+    pub ghost fits: { FitsAnswer (shared_in answer) ranked } by { FitsAnswer-prop (shared_in answer) ranked },
 }
 
 impl CachedAnswer {
@@ -31,7 +32,7 @@ impl CachedAnswer {
 
     /// The entries; `None` where the index has no crate of that name.
     pub(crate) fn krate(&self) -> Option<&IndexKrate>
-        ensures { option_copied result ≡ krate_in self.now.answer }
+        ensures { option_copied result ≡ shared_in self.now.answer }
     {
         match &self.answer {
             Some(shared) => Some(shared.as_ref()),
@@ -41,7 +42,7 @@ impl CachedAnswer {
 
     /// The entries, shared with this result.
     pub(crate) fn shared(&self) -> Result<Option<Rc<IndexKrate>>, AllocError>
-        ensures { IfOk result (λ shared. krate_in shared ≡ krate_in self.now.answer) }
+        ensures { IfOk result (λ shared. shared_in shared ≡ shared_in self.now.answer) }
     {
         match &self.answer {
             Some(shared) => {
@@ -55,7 +56,7 @@ impl CachedAnswer {
     /// Ranks the entries, unless that is done.
     pub(crate) fn rank(&mut self, alloc: Global) -> CargoResult<()>
         ensures answer { self.new.answer ≡ self.old.answer }
-        ensures ranked { OnOk result (IsRanked (krate_in self.new.answer) self.new.ranked) }
+        ensures ranked { OnOk result (IsRanked (shared_in self.new.answer) self.new.ranked) }
         ensures error { IfErr result IsMemory }
     {
         if self.ranked.is_some() {
@@ -78,7 +79,7 @@ impl CachedAnswer {
         level: Option<Level>,
     ) -> CargoResult<()>
         ensures answer { self.new.answer ≡ self.old.answer }
-        ensures ranked { OnOk result (IsRanked (krate_in self.new.answer) self.new.ranked) }
+        ensures ranked { OnOk result (IsRanked (shared_in self.new.answer) self.new.ranked) }
         ensures error { IfErr result IsMemory }
     {
         self.rank(alloc)?;

@@ -1,7 +1,8 @@
 //! The cached results for the crates of a registry.
 ghost use Rattle.std.specs.Prelude.{◌≡◌, ◌≢◌, None, Some, IfErr, List, OnErr, OnOk, option_and_then, option_copied, option_map, ℕ};
 ghost use Rattle.edit_base.specs.Errors.{IsMemory};
-ghost use Rattle.edit_cache.specs.CachedAnswer.{IsRankedAt, krate_in};
+ghost use Rattle.edit_sources.specs.Index.{shared_in};
+ghost use Rattle.edit_cache.specs.CachedAnswer.{IsRankedAt};
 ghost use Rattle.edit_cache.specs.RegistryAnswers.{has_last, last_result, ranking_of, result_in, result_of};
 
 use crate::cached_result::CachedAnswer;
@@ -121,7 +122,7 @@ impl RegistryAnswers {
     fn rank_last(&mut self, alloc: Global) -> CargoResult<()>
         ensures map { self.new.others ≡ self.old.others }
         ensures same { last_result self.new.last ≡ last_result self.old.last }
-        ensures ranked { OnOk result (IsRankedAt (option_map (λ last. krate_in last.cached.answer) self.new.last)
+        ensures ranked { OnOk result (IsRankedAt (option_map (λ last. shared_in last.cached.answer) self.new.last)
             (option_and_then (λ last. last.cached.ranked) self.new.last)) }
         ensures error { IfErr result IsMemory }
     {
@@ -158,7 +159,7 @@ impl RegistryAnswers {
     ) -> CargoResult<()>
         ensures map { self.new.others ≡ self.old.others }
         ensures same { last_result self.new.last ≡ last_result self.old.last }
-        ensures ranked { OnOk result (IsRankedAt (option_map (λ last. krate_in last.cached.answer) self.new.last)
+        ensures ranked { OnOk result (IsRankedAt (option_map (λ last. shared_in last.cached.answer) self.new.last)
             (option_and_then (λ last. last.cached.ranked) self.new.last)) }
         ensures error { IfErr result IsMemory }
     {

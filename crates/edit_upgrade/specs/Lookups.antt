@@ -4,9 +4,8 @@ use Rattle.std.specs.Str.{bytes_eq}
 use Rattle.edit_version.specs.IndexEntry.{IndexEntry}
 use Rattle.edit_version.specs.Admissible.{admissible_in}
 use Rattle.edit_version.specs.RustVersions.{Numbers}
-use Rattle.edit_cache.specs.CachedAnswer.{krate_in}
 use Rattle.edit_cache.specs.IndexCache.{cached_answer_at}
-use Rattle.edit_sources.specs.Index.{Outcomes, answer_of}
+use Rattle.edit_sources.specs.Index.{Outcomes, answer_of, shared_in}
 use Rattle.edit_cache.specs.declared.cache.IndexCache.{IndexCache}
 use Rattle.edit_sources.specs.declared.config.Config.{Config}
 use Rattle.edit_sources.specs.declared.index.IndexKrate.{IndexKrate}
@@ -31,7 +30,7 @@ cached_by c address name = option_map answer_of (cached_answer_at c address name
 
 -- the entries that a lookup found, if the index has the crate (own)
 abbrev pub answer_in : Look → Option IndexKrate
-answer_in lookup = krate_in lookup.answer
+answer_in lookup = shared_in lookup.answer
 
 -- the lookup was made at this address for this name
 abbrev pub is_lookup_at : List ℕ → List ℕ → Look → Bool
