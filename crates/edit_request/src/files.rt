@@ -126,7 +126,17 @@ pub(crate) fn metadata_path(
         return Ok(None);
     };
     let text = value.to_string(alloc)?;
-    Ok(Some(put_at(alloc, store, root, "(metadata)", text.as_str())?))
+    Ok(Some(put_metadata(alloc, root, text.as_str(), store)?))
+}
+
+/// Stores a text as the metadata of a request, and returns its path.
+pub(crate) fn put_metadata(
+    alloc: Global,
+    root: &str,
+    text: &str,
+    store: &mut MemoryStore,
+) -> Result<String, RequestError> {
+    put_at(alloc, store, root, "(metadata)", text)
 }
 
 /// Stores the lock file of a request, and returns its path, where there is one.

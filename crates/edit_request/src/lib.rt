@@ -7,6 +7,7 @@ mod error;
 mod fields;
 mod files;
 mod members;
+mod metadata_text;
 mod options;
 mod request;
 

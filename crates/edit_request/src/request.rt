@@ -1,8 +1,11 @@
 //! Reads a request.
 
 use crate::error::{RequestError, malformed_error};
-use crate::files::{RequestFile, files_at, index_path, lock_path, metadata_path, root_of};
+use crate::files::{
+    RequestFile, files_at, index_path, lock_path, metadata_path, put_metadata, root_of,
+};
 use crate::members::{Members, check_keys, object_at, text_at, value_at};
+use crate::metadata_text::split_metadata;
 use crate::options::{push_arg, push_options, push_pair};
 use edit_store::MemoryStore;
 use serde_json::Value;
@@ -45,11 +48,8 @@ fn json_error(alloc: Global, error: &serde_json::Error) -> RequestError {
     }
 }
 
-/// Parses the bytes of a request.
-fn parse(alloc: Global, bytes: &[u8]) -> Result<Value, RequestError> {
-    let Ok(text) = std::str::from_utf8(bytes) else {
-        return Err(malformed_error(alloc, "the request is not UTF-8"));
-    };
+/// Parses the text of a request.
+fn parse(alloc: Global, text: &str) -> Result<Value, RequestError> {
     match Value::from_str(alloc, text) {
         Ok(value) => Ok(value),
         Err(error) => Err(json_error(alloc, &error)),
@@ -119,8 +119,12 @@ fn push_target(
     }
 }
 
-/// Reads the members of a request.
-fn read_members(alloc: Global, members: &Members) -> Result<Request, RequestError> {
+/// Reads the members of a request; `metadata` are those that were taken out of its text.
+fn read_members(
+    alloc: Global,
+    members: &Members,
+    metadata: Option<&str>,
+) -> Result<Request, RequestError> {
     check_keys(alloc, members, KEYS)?;
     check_version(alloc, members)?;
     let command = command_of(alloc, members)?;
@@ -129,7 +133,10 @@ fn read_members(alloc: Global, members: &Members) -> Result<Request, RequestErro
     let manifests = files_at(alloc, members, "manifests", root, &mut store)?;
     let configs = files_at(alloc, members, "configs", root, &mut store)?;
     drop(configs);
-    let metadata = metadata_path(alloc, members, root, &mut store)?;
+    let metadata = match metadata {
+        Some(text) => Some(put_metadata(alloc, root, text, &mut store)?),
+        None => metadata_path(alloc, members, root, &mut store)?,
+    };
     let index = index_path(alloc, members, root, &mut store)?;
     let lock = lock_path(alloc, members, root, &mut store)?;
     let mut args = Vec::new(alloc);
@@ -158,11 +165,27 @@ fn read_members(alloc: Global, members: &Members) -> Result<Request, RequestErro
     })
 }
 
-/// Reads a request.
-pub(crate) fn read_request(alloc: Global, bytes: &[u8]) -> Result<Request, RequestError> {
-    let value = parse(alloc, bytes)?;
+/// Reads the members of a request that was parsed.
+fn read_value(
+    alloc: Global,
+    value: &Value,
+    metadata: Option<&str>,
+) -> Result<Request, RequestError> {
     match value.as_object() {
-        Some(members) => read_members(alloc, members),
+        Some(members) => read_members(alloc, members, metadata),
         None => Err(malformed_error(alloc, "the request is not an object")),
     }
+}
+
+/// Reads a request.
+pub(crate) fn read_request(alloc: Global, bytes: &[u8]) -> Result<Request, RequestError> {
+    let Ok(text) = std::str::from_utf8(bytes) else {
+        return Err(malformed_error(alloc, "the request is not UTF-8"));
+    };
+    if let Some(split) = split_metadata(alloc, text)? {
+        if let Ok(value) = Value::from_str(alloc, split.rest.as_str()) {
+            return read_value(alloc, &value, Some(split.metadata));
+        }
+    }
+    read_value(alloc, &parse(alloc, text)?, None)
 }
