@@ -92,34 +92,14 @@ fn behind_value<'a>(
 fn skips_a_value_that_is_known(rt: HostRuntime) {
     let mut known = None;
     let rows = [
-        ("the first value", "{\"k\":[[\"a\"]],\"b\":1}", 2, "b"),
+        ("a first value", "{\"k\":[[\"a\"]],\"b\":1}", 2, "b"),
         ("the same again", "{\"k\":[[\"a\"]],\"c\":1}", 2, "c"),
-        (
-            "the same, but too deep",
-            "{\"k\":[[\"a\"]],\"c\":1}",
-            1,
-            "no value",
-        ),
-        (
-            "the same, and longer",
-            "{\"k\":[[\"a\"],[]],\"d\":1}",
-            2,
-            "d",
-        ),
+        ("one too deep", "{\"k\":[[\"a\"]],\"c\":1}", 1, "no value"),
+        ("a longer one", "{\"k\":[[\"a\"],[]],\"d\":1}", 2, "d"),
         ("the front of that", "{\"k\":[[\"a\"]],\"e\":1}", 2, "e"),
-        ("the same as the last member", "{\"k\":[[\"a\"]]}", 2, ""),
-        (
-            "the same before another",
-            "{\"k\":[[\"a\"]],\"f\":1}",
-            2,
-            "f",
-        ),
-        (
-            "the same before an error",
-            "{\"k\":[[\"a\"]]]",
-            2,
-            "no value",
-        ),
+        ("the last member", "{\"k\":[[\"a\"]]}", 2, ""),
+        ("a member again", "{\"k\":[[\"a\"]],\"f\":1}", 2, "f"),
+        ("a colon behind it", "{\"k\":[[\"a\"]]:1}", 2, "no value"),
     ];
     for (row, text, depth, want) in rows {
         check_result(&rt, row, behind_value(&rt, text, depth, &mut known), want);
