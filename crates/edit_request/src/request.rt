@@ -119,6 +119,70 @@ fn push_target(
     }
 }
 
+/// The paths of the files of a request beside its manifests.
+#[derive(Drop)]
+struct FilePaths {
+    metadata: Option<String>,
+    index: Option<String>,
+    lock: Option<String>,
+}
+
+/// Stores the files of a request beside its manifests; `metadata` are those that were taken out of its text.
+fn put_files(
+    alloc: Global,
+    members: &Members,
+    root: &str,
+    metadata: Option<&str>,
+    store: &mut MemoryStore,
+) -> Result<FilePaths, RequestError> {
+    let configs = files_at(alloc, members, "configs", root, store)?;
+    drop(configs);
+    let metadata = match metadata {
+        Some(text) => Some(put_metadata(alloc, root, text, store)?),
+        None => metadata_path(alloc, members, root, store)?,
+    };
+    Ok(FilePaths {
+        metadata,
+        index: index_path(alloc, members, root, store)?,
+        lock: lock_path(alloc, members, root, store)?,
+    })
+}
+
+/// The arguments of the program for a request.
+fn request_args(
+    alloc: Global,
+    members: &Members,
+    command: &str,
+    manifests: &[RequestFile],
+    paths: FilePaths,
+) -> Result<Vec<String>, RequestError> {
+    let mut args = Vec::new(alloc);
+    push_arg(alloc, &mut args, command)?;
+    push_manifests(
+        alloc,
+        &mut args,
+        command,
+        paths.metadata.as_ref(),
+        manifests,
+    )?;
+    if command != "looks" {
+        push_pair(alloc, &mut args, "message-format", "json")?;
+    }
+    if let Some(path) = paths.index {
+        push_pair(alloc, &mut args, "index-file", path.as_str())?;
+    } else if command == "upgrade" {
+        return Err(malformed_error(alloc, "the member `index` is missing"));
+    }
+    if let Some(path) = paths.lock {
+        push_pair(alloc, &mut args, "lock-file", path.as_str())?;
+    }
+    if let Some(options) = object_at(alloc, members, "options")? {
+        push_options(alloc, &mut args, options)?;
+    }
+    push_target(alloc, &mut args, members)?;
+    Ok(args)
+}
+
 /// Reads the members of a request; `metadata` are those that were taken out of its text.
 fn read_members(
     alloc: Global,
@@ -131,34 +195,9 @@ fn read_members(
     let root = root_of(alloc, members)?;
     let mut store = MemoryStore::new(alloc);
     let manifests = files_at(alloc, members, "manifests", root, &mut store)?;
-    let configs = files_at(alloc, members, "configs", root, &mut store)?;
-    drop(configs);
-    let metadata = match metadata {
-        Some(text) => Some(put_metadata(alloc, root, text, &mut store)?),
-        None => metadata_path(alloc, members, root, &mut store)?,
-    };
-    let index = index_path(alloc, members, root, &mut store)?;
-    let lock = lock_path(alloc, members, root, &mut store)?;
-    let mut args = Vec::new(alloc);
-    push_arg(alloc, &mut args, command)?;
-    push_manifests(alloc, &mut args, command, metadata.as_ref(), &manifests)?;
-    if command != "looks" {
-        push_pair(alloc, &mut args, "message-format", "json")?;
-    }
-    if let Some(path) = index {
-        push_pair(alloc, &mut args, "index-file", path.as_str())?;
-    } else if command == "upgrade" {
-        return Err(malformed_error(alloc, "the member `index` is missing"));
-    }
-    if let Some(path) = lock {
-        push_pair(alloc, &mut args, "lock-file", path.as_str())?;
-    }
-    if let Some(options) = object_at(alloc, members, "options")? {
-        push_options(alloc, &mut args, options)?;
-    }
-    push_target(alloc, &mut args, members)?;
+    let paths = put_files(alloc, members, root, metadata, &mut store)?;
     Ok(Request {
-        args,
+        args: request_args(alloc, members, command, &manifests, paths)?,
         root: String::from_str(alloc, root)?,
         manifests,
         store,
