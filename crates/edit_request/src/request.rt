@@ -154,7 +154,7 @@ fn request_args(
     members: &Members,
     command: &str,
     manifests: &[RequestFile],
-    paths: FilePaths,
+    paths: &FilePaths,
 ) -> Result<Vec<String>, RequestError> {
     let mut args = Vec::new(alloc);
     push_arg(alloc, &mut args, command)?;
@@ -168,12 +168,12 @@ fn request_args(
     if command != "looks" {
         push_pair(alloc, &mut args, "message-format", "json")?;
     }
-    if let Some(path) = paths.index {
+    if let Some(path) = &paths.index {
         push_pair(alloc, &mut args, "index-file", path.as_str())?;
     } else if command == "upgrade" {
         return Err(malformed_error(alloc, "the member `index` is missing"));
     }
-    if let Some(path) = paths.lock {
+    if let Some(path) = &paths.lock {
         push_pair(alloc, &mut args, "lock-file", path.as_str())?;
     }
     if let Some(options) = object_at(alloc, members, "options")? {
@@ -197,7 +197,7 @@ fn read_members(
     let manifests = files_at(alloc, members, "manifests", root, &mut store)?;
     let paths = put_files(alloc, members, root, metadata, &mut store)?;
     Ok(Request {
-        args: request_args(alloc, members, command, &manifests, paths)?,
+        args: request_args(alloc, members, command, &manifests, &paths)?,
         root: String::from_str(alloc, root)?,
         manifests,
         store,
