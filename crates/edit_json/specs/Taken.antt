@@ -7,8 +7,8 @@ use Rattle.json.specs.Word.{ends_word}
 use Rattle.serde_json.specs.Data.{Data}
 use Rattle.edit_json.specs.Reads.{ReadsValue}
 
--- a text and its rest have the relation, and so have the bytes before the rest with any other text behind
--- them, if that begins with the same byte as the rest or both are empty (own)
+-- the relation holds of a text and its rest, and also with any other text in place of the rest that begins
+-- with the same byte, or is empty as the rest is (own)
 pub record Takes (Relates : List ℕ → List ℕ → Type 0) (text rest : List ℕ) : Type 0 where
   pub front : List ℕ
   pub whole : text ≡ front ++ rest
@@ -23,8 +23,8 @@ ClosesString text rest =
 abbrev pub HasSameLexemes : List ℕ → List ℕ → Type 0
 HasSameLexemes text rest = lex between text ≡ lex between rest
 
--- a text behind a value has the tokens of the rest, and before it may end a literal or a string that is no
--- key (own)
+-- behind a value, a text has the tokens of the rest; a literal may end where the text begins, and so may a
+-- string that is no key (own)
 pub record Follows (text rest : List ℕ) : Type 0 where
   pub tokens : punctuate after_value (lex between text) ≡ tokens rest
   pub delimited : ends_word text ≡ true

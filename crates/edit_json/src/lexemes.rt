@@ -1,10 +1,10 @@
-//! Takes one token off the front of a JSON text that is written as registries write it: keys, and strings
-//! that are read, have no escapes, strings that are skipped none but `\"` and `\\`; there are blanks only
-//! after a comma or a colon, each number is `1` or `2`, and a comma is followed by a string, an array or an
-//! object.
+//! Takes one token off the front of a JSON text that is written as registries write it: keys and strings that
+//! are read have no escapes, those that are skipped none but `\"` and `\\`; there are blanks only after a
+//! comma or a colon, each number is `1` or `2`, and a comma is followed by a string, an array or an object.
 //!
 //! A function answers `None` at any other text, also where that is valid JSON. A token is taken together
-//! with what has to stand between it and the next one: a key with its colon, a value with its comma.
+//! with what has to stand between it and the next one: a key with its colon, a value with its comma. Where a
+//! contract says `Takes`, it holds of the bytes that were taken whatever stands behind them.
 ghost use Rattle.std.specs.Prelude.{◌≡◌, ◌≤◌, ◌∷◌, length, map, Some, IfSome};
 ghost use Rattle.std.specs.List.{prefix_len};
 ghost use Rattle.std.specs.Simd.Lanes.{mask_l};
