@@ -87,7 +87,8 @@ impl<I: Index> IndexCache<I> {
         answer: Option<Rc<IndexKrate>>,
     ) -> CargoResult<()>
         ensures index { self.new.index ≡ self.old.index }
-        ensures preserved { OnOk result (cached_answer_at self.new address.now name.now ≡ Some (shared_in answer)) }
+        ensures preserved { OnOk result (cached_answer_at self.new address.now name.now
+            ≡ Some (shared_in answer)) }
         ensures others { HasSameCacheBut address.now name.now self.old self.new }
         ensures error { OnErr result (HasSameCache self.old self.new) }
         ensures memory { IfErr result IsMemory }

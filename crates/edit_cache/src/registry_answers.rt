@@ -122,7 +122,8 @@ impl RegistryAnswers {
     fn rank_last(&mut self, alloc: Global) -> CargoResult<()>
         ensures map { self.new.others ≡ self.old.others }
         ensures same { last_result self.new.last ≡ last_result self.old.last }
-        ensures ranked { OnOk result (IsRankedAt (option_map (λ last. shared_in last.cached.answer) self.new.last)
+        ensures ranked { OnOk result (IsRankedAt
+            (option_map (λ last. shared_in last.cached.answer) self.new.last)
             (option_and_then (λ last. last.cached.ranked) self.new.last)) }
         ensures error { IfErr result IsMemory }
     {
@@ -159,7 +160,8 @@ impl RegistryAnswers {
     ) -> CargoResult<()>
         ensures map { self.new.others ≡ self.old.others }
         ensures same { last_result self.new.last ≡ last_result self.old.last }
-        ensures ranked { OnOk result (IsRankedAt (option_map (λ last. shared_in last.cached.answer) self.new.last)
+        ensures ranked { OnOk result (IsRankedAt
+            (option_map (λ last. shared_in last.cached.answer) self.new.last)
             (option_and_then (λ last. last.cached.ranked) self.new.last)) }
         ensures error { IfErr result IsMemory }
     {

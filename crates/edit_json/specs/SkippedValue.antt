@@ -6,11 +6,11 @@ use Rattle.json.specs.Lex.{tokens}
 use Rattle.json.specs.Token.{Token, tokens_code}
 use Rattle.serde_json.specs.Read.{converted, of_json}
 
--- the tokens behind a value, nested at most this deep (own)
+-- the tokens after a value, nested at most this deep (own)
 abbrev pub tokens_behind : ℕ → List ℕ → Option (List Token)
 tokens_behind depth text = option_map (λ p. p.1) (converted of_json (value depth (tokens text)))
 
--- each text that begins with these bytes begins with a value, and what is behind that begins with the last of
+-- each text that begins with these bytes begins with a value, and what is after that begins with the last of
 -- them (own)
 abbrev pub IsSkippedValue : ℕ → List ℕ → Type 0
 IsSkippedValue depth bytes =

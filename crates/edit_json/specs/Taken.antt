@@ -1,4 +1,4 @@
--- What is taken off the front of a JSON text, whatever stands behind it.
+-- What is taken off the front of a JSON text, whatever follows it.
 use Rattle.std.specs.Prelude.{◌≡◌, ℕ, List, ◌∷◌, ◌++◌, Some, false, take, true}
 use Rattle.json.specs.Lex.{after_value, begins_colon, between, in_string, lex, punctuate, tokens}
 use Rattle.json.specs.Text.{content, plain}
@@ -23,7 +23,7 @@ ClosesString text rest =
 abbrev pub HasSameLexemes : List ℕ → List ℕ → Type 0
 HasSameLexemes text rest = lex between text ≡ lex between rest
 
--- behind a value, a text has the tokens of the rest; a literal may end where the text begins, and so may a
+-- after a value, a text has the tokens of the rest; a literal may end where the text begins, and so may a
 -- string that is no key (own)
 pub record Follows (text rest : List ℕ) : Type 0 where
   pub tokens : punctuate after_value (lex between text) ≡ tokens rest

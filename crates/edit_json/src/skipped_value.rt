@@ -79,7 +79,7 @@ fn skip_object(text: &[u8], depth: usize) -> Option<&[u8]>
     }
 }
 
-/// A value that was skipped: its bytes with the comma and the blanks behind it, and the byte behind these. A
+/// A value that was skipped: its bytes with the comma and the blanks after it, and the byte after these. A
 /// text that begins with the same bytes begins with the same value.
 #[derive(Drop)]
 pub struct SkippedValue<'a> {
@@ -103,7 +103,7 @@ impl<'a> SkippedValue<'a> {
     }
 }
 
-/// What follows a value, and the value that was skipped, which is not kept at the end of the text.
+/// What follows a value, and the value that was skipped, none at the end of the text.
 #[inline(always)]
 pub(crate) fn skip_new_value<'a>(
     text: &'a [u8],

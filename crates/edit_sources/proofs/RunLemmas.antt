@@ -13,7 +13,7 @@ use Rattle.std.proofs.lemmas.List.Elements.{All-head, All-tail, All-nil, All-pus
 use Rattle.std.proofs.lemmas.Slice.Eq.{bytes_eq-Decides}
 use Rattle.edit_version.specs.declared.fetch.IndexVersion.{IndexVersion}
 use Rattle.edit_sources.specs.FileIndex.{AreNamed, IsAdded, items_at, items_of, shared_items}
-use Rattle.edit_sources.specs.declared.file_index.Group.{Group}
+use Rattle.edit_sources.specs.declared.index_group.Group.{Group}
 
 abbrev Groups : Type 0
 Groups = BTreeMap (String Global) Group

@@ -16,7 +16,7 @@ use Rattle.edit_sources.specs.Withheld.{nothing, of_crate_in}
 use Rattle.edit_sources.specs.declared.published.PublishedBefore.{PublishedBefore}
 use Rattle.edit_sources.specs.declared.withheld.Withheld.{Withheld}
 use Rattle.edit_sources.specs.declared.file_index.FileIndex.{FileIndex}
-use Rattle.edit_sources.specs.declared.file_index.Group.{Group}
+use Rattle.edit_sources.specs.declared.index_group.Group.{Group}
 
 -- the shared entries of a group, none where none are shared (own)
 abbrev pub shared_items : Option (Rc IndexKrate Global) → List IndexVersion

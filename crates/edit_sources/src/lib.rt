@@ -6,6 +6,7 @@ pub mod crate_name;
 pub mod file_index;
 pub mod index;
 pub mod index_dir;
+mod index_group;
 pub mod index_lines;
 mod index_path;
 mod index_text;

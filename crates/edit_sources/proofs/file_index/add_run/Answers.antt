@@ -1,7 +1,7 @@
 use Rattle.std.proofs.Common.{◌≡◌, ◌++◌, None, refl, sym, ap, ◌∙◌, subst, ⊎_elim, List, arith}
 use Rattle.std.specs.Prelude.{string_bytes}
 use Rattle.std.proofs.lemmas.Map.Text.{text_keys}
-use Rattle.edit_sources.specs.declared.file_index.Group.{Group}
+use Rattle.edit_sources.specs.declared.index_group.Group.{Group}
 use Rattle.edit_version.specs.declared.fetch.IndexVersion.{IndexVersion}
 use Rattle.edit_sources.specs.FileIndex.{AreNamed, items_at, items_of}
 use Rattle.edit_sources.proofs.RunLemmas.{appended, emptied, inserted, joined}
