@@ -11,7 +11,7 @@ each what it reads:
 - as a tree, of which members are looked up. This decides: the program has to accept the same lines, and to
   have the same members. Accepted lines are read thousands in a run, which reports the newest version of each
   crate: runs with several Rust versions and bounds of time show all five members. Each line that is refused is
-  read in a run of its own, behind up to three accepted ones and half of them with a bound, and the error has
+  read in a run of its own, after up to three accepted ones and half of them with a bound, and the error has
   to have its number.
 - as a typed record, as a derived `Deserialize` reads it. A line that it reads otherwise than a tree has to be
   of one of the kinds in KINDS.
@@ -69,7 +69,7 @@ class Check:
         self.found.setdefault(kind, []).append((line, more))
 
     def text(self, lines):
-        """The text of these lines, with a line end behind the last one or without."""
+        """The text of these lines, with a line end after the last one or without."""
         return b"\n".join(lines) + self.rng.choice((b"", b"\n"))
 
     def compare_accepted(self, batch):
@@ -92,13 +92,13 @@ class Check:
             self.add(what, b"\n".join(of_name), more)
 
     def compare_refused(self, line, error, before):
-        """Reads a line that serde_json refuses, behind some that it accepts."""
+        """Reads a line that serde_json refuses, after some that it accepts."""
         bound = self.rng.choice((None, index_runs.BOUNDS[0]))
         bad = self.runs.bad_line(self.text([*before, line, *self.rng.choice(((), before))]), bound)
         if bad is None:
             self.add(f"accepted, where serde_json has: {error}", line, f"with the bound {bound}")
         elif bad != len(before) + 1:
-            self.add("another line is refused", line, f"{bad}, not {len(before) + 1}, behind {before!r}")
+            self.add("another line is refused", line, f"{bad}, not {len(before) + 1}, after {before!r}")
 
     def compare_alone(self, line):
         """Reads a line that serde_json accepts in a run of its own."""
@@ -131,7 +131,7 @@ class Check:
             self.compare_accepted(accepted[at:at + BATCH])
         for line, _ in accepted[::10]:
             self.compare_alone(line)
-        # (lines that the program refuses itself would hide the ones behind them)
+        # (lines that the program refuses itself would hide the ones after them)
         wrong = {line for lines in self.found.values() for line, _ in lines}
         right = [line for line, _ in accepted if line not in wrong and len(line) < 1000]
         for line, error in refused:

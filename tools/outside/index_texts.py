@@ -137,7 +137,7 @@ def joined(rng, pairs):
 
 
 def spaced(rng, line):
-    """The line with a blank behind each comma and colon, or blanks where other marks meet, also within its
+    """The line with a blank after each comma and colon, or blanks where other marks meet, also within its
     values."""
     if rng.random() < 0.4:
         return line.replace(b'":', b'": ').replace(b',"', b', "').replace(b",{", b", {")

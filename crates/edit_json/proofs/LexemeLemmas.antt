@@ -18,7 +18,7 @@ use Rattle.edit_json.specs.Taken.{Follows}
 
 -- ---- the first bytes of a text
 
--- what a slice's pattern binds behind its first n bytes
+-- what a slice's pattern binds after its first n bytes
 abbrev pub behind : ℕ → List ℕ → List ℕ
 behind n t = take (length t - n) (drop n t)
 
@@ -165,7 +165,7 @@ comma_at : (t r : List ℕ) → punctuate after_comma (lex between t) ≡ tokens
 unfolding lex punctuate
 comma_at t r e = record { tokens = e; delimited = refl; no_key = refl }
 
--- behind a comma and blanks stands a string, an array or an object
+-- a string, an array or an object follows a comma and blanks
 pub at_comma : (t r : List ℕ) → lex between t ≡ lex between r → 1 ≤ length r
     → (get_or r 0 0 ≡ 34) ⊎ ((get_or r 0 0 ≡ 123) ⊎ (get_or r 0 0 ≡ 91)) → Follows (44 ∷ t) r
 at_comma t r same begins h = comma_at t r (ap (punctuate after_comma) same ∙ may_follow r begins h)

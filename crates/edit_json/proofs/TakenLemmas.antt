@@ -1,4 +1,4 @@
--- What is taken off the front of a text, whatever stands behind it: one part, and one part after another.
+-- What is taken off the front of a text, whatever follows it: one part, and one part after another.
 use Rattle.std.proofs.Common.{◌≡◌, ℕ, ◌≤◌, ◌⊎◌, inl, inr, List, [], ◌∷◌, ◌++◌, length, take, get_or, true, refl, sym, ap, subst, ◌∙◌, append_assoc, arith}
 use Rattle.json.specs.Lex.{after_value, between, fresh, lex, punctuate, tokens}
 use Rattle.json.specs.Token.{Token}
@@ -78,7 +78,7 @@ token_taken bytes token t u r whole follows lexed =
     takes_both (HasFront bytes) Follows (BeginsWith token) t u r (front_taken bytes t u whole) follows
     (λ x y z e f. ap tokens e ∙ lexed y f.delimited ∙ ap (λ ts. token ∷ ts) f.tokens)
 
--- a comma and blanks, where a string, an array or an object stands behind them
+-- a comma and blanks, where a string, an array or an object follows
 pub comma_taken : (t u r : List ℕ) → t ≡ 44 ∷ u → Takes HasSameLexemes u r → 1 ≤ length r
     → (get_or r 0 0 ≡ 34) ⊎ ((get_or r 0 0 ≡ 123) ⊎ (get_or r 0 0 ≡ 91)) → Takes Follows t r
 comma_taken t u r whole blanks some begins = record {

@@ -79,7 +79,7 @@ HasReadMembers depth first text = HasRead depth (λ ms. ⊤) (tokens first) (tok
 
 -- a key and its value
 abbrev IsMember : ℕ → List ℕ → List ℕ → Type 0
-IsMember depth text rest = (behind : List ℕ) × BeginsWithKey text behind × BeginsWithValue depth behind rest
+IsMember depth text rest = (after : List ℕ) × BeginsWithKey text after × BeginsWithValue depth after rest
 
 one_more_member : (depth : ℕ) (x y z : List ℕ) → HasReadMembers depth x y → IsMember depth y z → HasReadMembers depth x z
 one_more_member depth x y z so_far member =
@@ -148,7 +148,7 @@ module _ (depth : ℕ) (t r : List ℕ) where
 
 -- ---- a value that is known again
 
--- what was skipped, with the byte behind it
+-- what was skipped, with the byte after it
 pub remembered : (depth n : ℕ) (t r : List ℕ) → Takes (BeginsWithValue depth) t r → 1 ≤ length r → n ≡ length t - length r + 1 → IsSkippedValue depth (take n t)
 remembered depth n t [] taken some e = let never : ⊥ = omega arith in absurd never
 remembered depth n t (x ∷ xs) taken some e =

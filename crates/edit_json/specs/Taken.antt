@@ -42,6 +42,6 @@ BeginsWithString text rest = (s : List ℕ) × BeginsWith (string s) text rest
 abbrev pub BeginsWithKey : List ℕ → List ℕ → Type 0
 BeginsWithKey text rest = (k : List ℕ) × BeginsWith (key k) text rest
 
--- the first tokens of a text are those of a value, nested at most this deep (own)
+-- a text begins with the tokens of a value, nested at most this deep (own)
 abbrev pub BeginsWithValue : ℕ → List ℕ → List ℕ → Type 0
 BeginsWithValue depth text rest = (d : Data) × ReadsValue depth (tokens text) d (tokens rest)

@@ -4,7 +4,7 @@
 //!
 //! A function answers `None` at any other text, also where that is valid JSON. A token is taken together
 //! with what has to stand between it and the next one: a key with its colon, a value with its comma. Where a
-//! contract says `Takes`, it holds of the bytes that were taken whatever stands behind them.
+//! contract says `Takes`, it holds of the bytes that were taken whatever follows them.
 ghost use Rattle.std.specs.Prelude.{◌≡◌, ◌≤◌, ◌∷◌, length, map, Some, IfSome};
 ghost use Rattle.std.specs.List.{prefix_len};
 ghost use Rattle.std.specs.Simd.Lanes.{mask_l};
@@ -107,7 +107,7 @@ fn skip_blanks(text: &[u8]) -> &[u8]
     rest
 }
 
-/// Skips the comma behind a value, with blanks; a closing bracket stays, and so does the end of the text.
+/// Skips the comma after a value, with blanks; a closing bracket stays, and so does the end of the text.
 #[inline(always)]
 fn skip_comma(text: &[u8]) -> Option<&[u8]>
     ensures follows { IfSome result (λ rest. Takes Follows text.now rest.now) }

@@ -91,8 +91,8 @@ fn passing_answer(
     }
 }
 
-/// The shared answer of a lookup in a restricted index, from that of the whole index: the same where all
-/// versions of the crate pass.
+/// The shared answer of a lookup in a restricted index, from the answer of the whole index: the same answer
+/// if all versions of the crate pass.
 pub(crate) fn restrict_shared(
     alloc: Global,
     tests: &VersionTests<'_>,

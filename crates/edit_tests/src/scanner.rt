@@ -48,7 +48,7 @@ fn scans_a_line(rt: HostRuntime) {
     assert!(rt; scanner.is_at_end());
 }
 
-/// Whether a value is skipped that is nested at most so deep, with nothing behind it.
+/// Whether a value is skipped that is nested at most so deep, with nothing after it.
 fn skips(text: &str, depth: usize) -> bool {
     let mut scanner = Scanner::new(text);
     scanner.skip_value(depth).is_some() && scanner.is_at_end()
@@ -72,7 +72,7 @@ fn skips_values_as_registries_write_them(rt: HostRuntime) {
     assert!(rt; !skips("{\"a\":1}1", 1));
 }
 
-/// What is read behind the value at the key of an object, where the value is nested at most so deep.
+/// The text that is read after the value of a key, if the value is nested at most this deep.
 fn behind_value<'a>(
     rt: &impl Abort,
     text: &'a str,
