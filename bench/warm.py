@@ -130,10 +130,10 @@ def warm_run(room, size):
         on_line, off_line = command.least(room.rounds), command.least(room.rounds, "--offline")
         if server.sent:
             raise Failed(f"{server.sent} bytes were sent again")
-        curl = transfer(folder, server.address, found)
+        curl, counts = transfer(folder, server.address, found), command.counts()
     finally:
         server.shutdown()
-    note = f"{on_line:.3f} s by the clock, {curl:.3f} s of them curl; off line {off_line:.3f} s; {command.counts()}"
+    note = f"{on_line:.3f} s by the clock, {curl:.3f} s of them curl; off line {off_line:.3f} s; {counts}"
     cost = Cost(on_line, 0, on_line)
     return Result(f"{members} members, {count} crates, {size_text(whole)}", {"program": cost}, None,
                   (on_line - curl) / off_line, note)
