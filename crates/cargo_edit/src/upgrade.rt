@@ -2,5 +2,6 @@
 
 pub use edit_upgrade::update::update_calls;
 pub use edit_upgrade::{
-    Look, Options, UpgradePlan, Warning, plan_documents, plan_shared, plan_upgrade,
+    Look, Options, Origin, PlanFailure, UpgradePlan, Warning, plan_documents, plan_shared,
+    plan_upgrade,
 };

@@ -1,4 +1,6 @@
 //! The position of an entry in the text of its manifest.
+ghost use Rattle.std.specs.Prelude.{IfSome, string_bytes};
+ghost use Rattle.edit_diagnostics.specs.FailurePlaces.{IsInManifest};
 
 use edit_document::{Document, Place, Step, member_place};
 use edit_metadata::Input;
@@ -42,7 +44,9 @@ pub(crate) fn entry_position(
     input: &Input,
     document: &Document,
     place: &[Step],
-) -> Option<String> {
+) -> Option<String>
+    ensures { IfSome result (λ s. IsInManifest input.now (string_bytes s)) }
+{
     let path = input.path.as_str();
     match entry_offset(alloc, document, place) {
         Some(at) => position(alloc, path, &input.bytes, at),

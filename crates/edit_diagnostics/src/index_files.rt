@@ -1,18 +1,12 @@
-//! The files of an index that an upgrade reads.
+//! The file of an index that an entry's lookup reads.
 
-use crate::registries::{Lookup, lookup_of};
-use edit_base::CargoResult;
-use edit_base::paths::{folder, join};
+use crate::registries::{EntryAt, lookup_of, read_entry};
+use edit_base::paths::join;
 use edit_manifest::Manifest;
-use edit_manifest::entries::entries;
-use edit_metadata::Input;
-use edit_sources::Config;
 use edit_sources::index_dir::{layout_path, registry_folder};
 use edit_sources::registry::Definitions;
-use edit_steps::upgrade_read::SharedConfigs;
 use percent_encoding::percent_decode;
 use std::alloc::{AllocError, Global};
-use std::collections::BTreeSet;
 use std::str;
 use url::Url;
 
@@ -30,83 +24,25 @@ fn local_folder(alloc: Global, registry: &Url) -> Result<Option<String>, AllocEr
 }
 
 /// The folder of a registry's index files: in the given folder, else the folder of its `file` URL.
-fn registry_at(alloc: Global, dir: Option<&str>, registry: &Url) -> CargoResult<Option<String>> {
+fn folder_of(alloc: Global, dir: Option<&str>, registry: &Url) -> Option<String> {
     match dir {
         Some(dir) => {
-            let name = registry_folder(alloc, registry)?;
-            Ok(Some(join(alloc, dir, name.as_str())?))
+            let name = registry_folder(alloc, registry).ok()?;
+            join(alloc, dir, name.as_str()).ok()
         }
-        None => Ok(local_folder(alloc, registry)?),
+        None => local_folder(alloc, registry).ok()?,
     }
 }
 
-/// The index file of a crate; `None` where there is none.
-fn file_of(
-    alloc: Global,
-    dir: Option<&str>,
-    lookup: Lookup<'_>,
-    definitions: &mut Definitions<'_>,
-) -> CargoResult<Option<String>> {
-    let url = definitions.resolve(alloc, lookup.registry)?;
-    let layout = layout_path(alloc, lookup.name)?;
-    match registry_at(alloc, dir, &url)? {
-        Some(folder) => Ok(Some(join(alloc, folder.as_str(), layout.as_str())?)),
-        None => Ok(None),
-    }
-}
-
-/// Appends a path, unless it is in the set of those seen.
-fn push_new(
-    alloc: Global,
-    path: String,
-    seen: &mut BTreeSet<String>,
-    paths: &mut Vec<String>,
-) -> Result<(), AllocError> {
-    if seen.insert(String::from_str(alloc, path.as_str())?)? {
-        paths.push(path)?;
-    }
-    Ok(())
-}
-
-/// Appends the index files that the lookups of a manifest's entries read.
-fn push_files(
-    alloc: Global,
-    dir: Option<&str>,
-    input: &Input,
-    configs: &[Config],
-    seen: &mut BTreeSet<String>,
-    paths: &mut Vec<String>,
-) -> CargoResult<()> {
-    let manifest = Manifest::read_bytes(alloc, &input.bytes)?;
-    let found = entries(alloc, folder(input.path.as_str()), &manifest.document)?;
-    let mut definitions = Definitions::read(alloc, configs)?;
-    for entry in &found {
-        if let Some(lookup) = lookup_of(entry) {
-            if let Some(path) = file_of(alloc, dir, lookup, &mut definitions)? {
-                push_new(alloc, path, seen, paths)?;
-            }
-        }
-    }
-    Ok(())
-}
-
-/// The index files that the lookups of these manifests' entries read, without duplicates, in order, up to
-/// the first entry without one: in the given folder, else in the folders of the registries' URLs.
-pub(crate) fn index_files(
-    alloc: Global,
-    dir: Option<&str>,
-    inputs: &[Input],
-    configs: &SharedConfigs,
-) -> Vec<String> {
-    let mut seen = BTreeSet::new(alloc);
-    let mut paths = Vec::new(alloc);
-    for (i, input) in inputs.iter().enumerate() {
-        let Some(own) = configs.list_of(i) else {
-            return paths;
-        };
-        if push_files(alloc, dir, input, own, &mut seen, &mut paths).is_err() {
-            return paths;
-        }
-    }
-    paths
+/// The path of the index file that the lookup of an entry reads: in the given folder, else in the folder of
+/// its registry's URL. `None` where there is none, or memory runs out.
+pub(crate) fn index_file(alloc: Global, dir: Option<&str>, at: EntryAt<'_>) -> Option<String> {
+    let manifest = Manifest::read_bytes(alloc, &at.input.bytes).ok()?;
+    let entry = read_entry(alloc, at, &manifest.document)?;
+    let lookup = lookup_of(&entry)?;
+    let mut definitions = Definitions::read(alloc, at.configs).ok()?;
+    let url = definitions.resolve(alloc, lookup.registry).ok()?;
+    let layout = layout_path(alloc, lookup.name).ok()?;
+    let folder = folder_of(alloc, dir, &url)?;
+    join(alloc, folder.as_str(), layout.as_str()).ok()
 }

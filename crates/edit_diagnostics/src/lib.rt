@@ -4,6 +4,7 @@
 
 mod delivery;
 mod entries;
+mod explanation;
 mod index_files;
 mod members;
 mod policy;

@@ -1,6 +1,7 @@
 //! The members that get a new version, and those whose version causes an error.
 
 use crate::entries::{entry_position, place_of};
+use crate::explanation::Explanation;
 use crate::same::is_same;
 use edit_base::Error;
 use edit_base::paths::normal;
@@ -9,14 +10,6 @@ use edit_manifest::Manifest;
 use edit_metadata::{Input, Package, Workspace};
 use edit_set_version::{Selection, TargetVersion};
 use std::alloc::Global;
-
-/// What is known about an error beside its message.
-#[derive(Drop)]
-pub(crate) struct Explanation {
-    pub(crate) place: Option<String>,
-    pub(crate) cause: Option<String>,
-    pub(crate) help: Option<String>,
-}
 
 /// Whether one of these texts is this one.
 fn is_among(texts: &[String], text: &str) -> bool {

@@ -4,7 +4,7 @@ ghost use Rattle.edit_base.specs.declared.errors.Error.TheVariants.{Policy};
 ghost use Rattle.edit_policy.specs.Errors.{error_of};
 
 use crate::entries::entry_position;
-use crate::members::Explanation;
+use crate::explanation::Explanation;
 use edit_base::Error;
 use edit_document::{Place, Step, member_place};
 use edit_manifest::Manifest;

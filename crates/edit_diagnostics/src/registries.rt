@@ -1,17 +1,18 @@
-//! The entry whose registry or crate name causes an error.
+//! The registry and the crate name of an entry, and what they have to do with an error.
+ghost use Rattle.std.specs.Prelude.{IfSome, string_bytes};
+ghost use Rattle.edit_diagnostics.specs.FailurePlaces.{IsInManifest};
 
 use crate::entries::entry_position;
-use crate::same::is_same;
-use crate::sources::registry_cause;
+use crate::explanation::Explanation;
+use crate::sources::{registry_cause, registry_help};
 use edit_base::Error;
 use edit_base::paths::folder;
+use edit_document::{Document, Step};
 use edit_manifest::Manifest;
 use edit_manifest::entries::{Entry, ReadEntry, entries};
 use edit_metadata::Input;
 use edit_record::Source;
 use edit_sources::Config;
-use edit_sources::registry::Definitions;
-use edit_steps::upgrade_read::SharedConfigs;
 use std::alloc::Global;
 
 /// The registry and the crate name that an entry is looked up by.
@@ -22,11 +23,12 @@ pub(crate) struct Lookup<'a> {
     pub(crate) registry: Option<&'a str>,
 }
 
-/// An entry that causes an error.
-#[derive(Drop)]
-pub(crate) struct Fault {
-    pub(crate) place: Option<String>,
-    pub(crate) cause: Option<String>,
+/// An entry of a manifest, by its place, and the configurations that apply to the manifest.
+#[derive(Clone, Copy)]
+pub(crate) struct EntryAt<'a> {
+    pub(crate) input: &'a Input,
+    pub(crate) configs: &'a [Config],
+    pub(crate) place: &'a [Step],
 }
 
 /// The lookup of an entry; `None` where it is no entry of a registry.
@@ -43,22 +45,15 @@ pub(crate) fn lookup_of(entry: &Entry) -> Option<Lookup<'_>> {
     }
 }
 
-/// Whether the lookup of an entry fails with this error before an index file is read.
-fn has_lookup_error(
-    alloc: Global,
-    error: &Error,
-    lookup: Lookup<'_>,
-    definitions: &mut Definitions<'_>,
-) -> bool {
-    match definitions.resolve(alloc, lookup.registry) {
-        Err(own) => is_same(alloc, &own, error),
-        Ok(url) => match error {
-            Error::BadCrateName { name } => name.as_str() == lookup.name,
-            Error::Scheme { scheme } => scheme.as_str() == url.scheme(),
-            Error::IndexPath { address } => address.as_str() == url.as_str(),
-            _ => false,
-        },
+/// Reads the entry at a place of a document.
+pub(crate) fn read_entry(alloc: Global, at: EntryAt<'_>, document: &Document) -> Option<Entry> {
+    let found = entries(alloc, folder(at.input.path.as_str()), document).ok()?;
+    for entry in found {
+        if &entry.place[..] == at.place {
+            return Some(entry);
+        }
     }
+    None
 }
 
 /// The cause of an error of an entry's lookup.
@@ -78,38 +73,18 @@ fn cause_of(
     }
 }
 
-/// The first entry of a manifest that causes this error.
-fn fault_in(alloc: Global, error: &Error, input: &Input, configs: &[Config]) -> Option<Fault> {
-    let manifest = Manifest::read_bytes(alloc, &input.bytes).ok()?;
+/// Explains an error of the registry or the crate name of an entry.
+pub(crate) fn explain_lookup(alloc: Global, error: &Error, at: EntryAt<'_>) -> Option<Explanation>
+    ensures place { IfSome result
+        (λ x. IfSome x.place (λ s. IsInManifest at.entry.input.now (string_bytes s))) }
+{
+    let manifest = Manifest::read_bytes(alloc, &at.input.bytes).ok()?;
     let document = &manifest.document;
-    let found = entries(alloc, folder(input.path.as_str()), document).ok()?;
-    let mut definitions = Definitions::read(alloc, configs).ok()?;
-    for entry in &found {
-        let Some(lookup) = lookup_of(entry) else {
-            continue;
-        };
-        if has_lookup_error(alloc, error, lookup, &mut definitions) {
-            return Some(Fault {
-                place: entry_position(alloc, input, document, &entry.place),
-                cause: cause_of(alloc, error, lookup, configs),
-            });
-        }
-    }
-    None
-}
-
-/// The first entry of these manifests that causes this error, each manifest with its configurations.
-pub(crate) fn first_fault(
-    alloc: Global,
-    error: &Error,
-    inputs: &[Input],
-    configs: &SharedConfigs,
-) -> Option<Fault> {
-    for (i, input) in inputs.iter().enumerate() {
-        let own = configs.list_of(i)?;
-        if let Some(fault) = fault_in(alloc, error, input, own) {
-            return Some(fault);
-        }
-    }
-    None
+    let entry = read_entry(alloc, at, document)?;
+    let lookup = lookup_of(&entry)?;
+    Some(Explanation {
+        place: entry_position(alloc, at.input, document, at.place),
+        cause: cause_of(alloc, error, lookup, at.configs),
+        help: registry_help(alloc, error),
+    })
 }

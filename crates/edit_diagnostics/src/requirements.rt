@@ -1,7 +1,8 @@
 //! The requirement that cannot be raised to a new version.
 
 use crate::entries::entry_position;
-use crate::members::{Explanation, is_package_selected};
+use crate::explanation::Explanation;
+use crate::members::is_package_selected;
 use crate::same::is_same;
 use edit_base::Error;
 use edit_base::paths::{folder, join, normal};

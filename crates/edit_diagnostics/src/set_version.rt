@@ -1,7 +1,8 @@
 //! Explains errors of a plan of new versions.
 ghost use Rattle.std.specs.Prelude.{◌≡◌};
 
-use crate::members::{Explanation, find_rejected_root, find_rejected_version, without_version};
+use crate::explanation::{Explanation, with_explanation};
+use crate::members::{find_rejected_root, find_rejected_version, without_version};
 use crate::requirements::find_unraisable;
 use crate::suggestions::suggestions;
 use edit_base::paths::join;
@@ -91,13 +92,6 @@ pub fn explain_set_version(
     if matches!(&error, Error::NotToml { .. } | Error::NotUtf8) {
         return at_input(alloc, error, inputs);
     }
-    match explain_plan_error(alloc, &error, target, selection, workspace, inputs) {
-        Some(found) => RunError {
-            error,
-            place: found.place,
-            cause: found.cause,
-            help: found.help,
-        },
-        None => RunError::from(error),
-    }
+    let explanation = explain_plan_error(alloc, &error, target, selection, workspace, inputs);
+    with_explanation(error, explanation)
 }

@@ -1,35 +1,38 @@
-//! Explains errors of the plan of an upgrade.
-ghost use Rattle.std.specs.Prelude.{◌≡◌};
+//! Explains errors of the plan of an upgrade, from the input or the entry that caused them.
+ghost use Rattle.std.specs.Prelude.{◌≡◌, ◌⊎◌, IfSome, string_bytes};
+ghost use Rattle.edit_diagnostics.specs.FailurePlaces.{IsInManifest, IsIndexError, IsPlaceOf};
 ghost use Rattle.edit_store.specs.Store.{OnlyReads};
 
-use crate::index_files::index_files;
-use crate::registries::first_fault;
-use crate::sources::registry_help;
+use crate::explanation::with_explanation;
+use crate::index_files::index_file;
+use crate::registries::{EntryAt, explain_lookup};
 use edit_base::Error;
 use edit_metadata::Input;
 use edit_steps::upgrade_read::{SharedConfigs, SourceRequest};
-use edit_steps::{RunError, absolute_path, at_first, at_input};
+use edit_steps::{RunError, absolute_path, at_byte, at_first};
 use edit_store::Store;
+use edit_upgrade::{Origin, PlanFailure};
 use std::alloc::Global;
 
 /// The help for an invalid line of an index.
 const INDEX_LINE: &str = "a line of an index is a JSON object with strings `name` and `vers`";
 
-/// Adds to an error of reading an index the file that caused it.
+/// Adds to an error of reading an index the file that the lookup of an entry reads.
 fn at_index<S: Store>(
     alloc: Global,
     error: Error,
     dir: Option<&str>,
-    inputs: &[Input],
-    configs: &SharedConfigs,
+    at: EntryAt<'_>,
     files: &mut S,
 ) -> RunError
     ensures same { result.error ≡ error }
     ensures reads { OnlyReads (S.view files.old) (S.view files.new) }
 {
-    let paths = index_files(alloc, dir, inputs, configs);
+    let Some(path) = index_file(alloc, dir, at) else {
+        return with_explanation(error, None);
+    };
     let is_line = matches!(&error, Error::IndexLine { .. });
-    let failure = at_first(alloc, error, &paths, files);
+    let failure = at_first(alloc, error, &[path], files);
     if !is_line {
         return failure;
     }
@@ -37,24 +40,26 @@ fn at_index<S: Store>(
     RunError { cause, ..failure }
 }
 
-/// Adds to an error of an entry's lookup the place of the entry.
-fn at_entry(alloc: Global, error: Error, inputs: &[Input], configs: &SharedConfigs) -> RunError
-    ensures { result.error ≡ error }
+/// Explains an error of an entry's lookup.
+fn explain_entry<S: Store>(
+    alloc: Global,
+    error: Error,
+    dir: Option<&str>,
+    at: EntryAt<'_>,
+    files: &mut S,
+) -> RunError
+    ensures same { result.error ≡ error }
+    ensures reads { OnlyReads (S.view files.old) (S.view files.new) }
+    ensures place { IfSome result.place
+        (λ s. IsIndexError error ⊎ IsInManifest at.entry.input.now (string_bytes s)) }
 {
-    let help = registry_help(alloc, &error);
-    match first_fault(alloc, &error, inputs, configs) {
-        Some(fault) => RunError {
-            error,
-            place: fault.place,
-            cause: fault.cause,
-            help,
-        },
-        None => RunError {
-            error,
-            place: None,
-            cause: None,
-            help,
-        },
+    match &error {
+        Error::Memory => with_explanation(error, None),
+        Error::IndexLine { .. } | Error::Device(_) => at_index(alloc, error, dir, at, files),
+        _ => {
+            let explanation = explain_lookup(alloc, &error, at);
+            with_explanation(error, explanation)
+        }
     }
 }
 
@@ -63,28 +68,42 @@ fn folder_named(alloc: Global, request: &SourceRequest<'_>, current: &str) -> Op
     absolute_path(alloc, current, request.index_dir?).ok()
 }
 
-/// Explains an error of the plan of an upgrade over these manifests, with place and help: the manifest that
-/// is no TOML, the entry whose registry or name is invalid, or the index file. Reads files again for it; no
-/// file changes.
+/// Explains a failure of the plan of an upgrade over these manifests, with place and help: the manifest that
+/// is no TOML, the entry whose registry or name is invalid, or the index file that its lookup reads. Reads
+/// files again for it; no file changes.
 pub fn explain_upgrade<S: Store>(
     alloc: Global,
-    error: Error,
+    failure: PlanFailure,
     request: &SourceRequest<'_>,
     current: &str,
     inputs: &[Input],
     configs: &SharedConfigs,
     files: &mut S,
 ) -> RunError
-    ensures same { result.error ≡ error }
+    ensures same { result.error ≡ failure.error }
     ensures reads { OnlyReads (S.view files.old) (S.view files.new) }
+    // without a place where memory ran out
+    ensures place { IfSome result.place (λ s. IsPlaceOf inputs.now failure (string_bytes s)) }
 {
-    match &error {
-        Error::Memory => RunError::from(error),
-        Error::NotToml { .. } | Error::NotUtf8 => at_input(alloc, error, inputs),
-        Error::IndexLine { .. } | Error::Device(_) => {
+    let PlanFailure { error, origin } = failure;
+    match origin {
+        None => with_explanation(error, None),
+        Some(Origin::Input(i)) => match inputs.get(i) {
+            Some(input) => at_byte(alloc, error, input.path.as_str(), &input.bytes),
+            None => with_explanation(error, None),
+        },
+        Some(Origin::Entry { input, place }) => {
+            let (Some(input), Some(configs)) = (inputs.get(input), configs.list_of(input)) else {
+                return with_explanation(error, None);
+            };
+            let place = place.as_slice();
+            let at = EntryAt {
+                input,
+                configs,
+                place,
+            };
             let dir = folder_named(alloc, request, current);
-            at_index(alloc, error, dir.as_deref(), inputs, configs, files)
+            explain_entry(alloc, error, dir.as_deref(), at, files)
         }
-        _ => at_entry(alloc, error, inputs, configs),
     }
 }

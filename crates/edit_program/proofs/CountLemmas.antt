@@ -34,10 +34,13 @@ use Rattle.edit_store.specs.Store.{IsCallError, StoreView, IsRaisedCount}
 use Rattle.edit_upgrade.specs.Caches.{StopsDocuments, StopsInputs, cache_view}
 use Rattle.edit_upgrade.specs.Causes.{HasBadEntry, StopsAt}
 use Rattle.edit_upgrade.specs.Causes.StopsAt.{no_address as lacks_address, no_answer as lacks_answer}
+use Rattle.edit_upgrade.specs.Failures.{FailsOnDocuments, FailsOnInputs, IsPlanFailure}
 use Rattle.edit_upgrade.specs.Lookups.{CachedAnswers}
 use Rattle.edit_upgrade.specs.Records.{RowEntry}
 use Rattle.edit_upgrade.specs.OptionCauses.{IsOptionCause, IsPlanError}
 use Rattle.edit_upgrade.specs.declared.decision.options.Options.{Options}
+use Rattle.edit_upgrade.specs.declared.failure.PlanFailure.{PlanFailure}
+use Rattle.edit_upgrade.proofs.CauseLemmas.{documents-error, inputs-error}
 use Rattle.edit_version.specs.Changed as changed
 use Rattle.edit_version.specs.CrateSpecs.{IsInvalidSpec}
 use Rattle.edit_version.specs.Increments.{Change}
@@ -145,19 +148,21 @@ documents_counted view index o inputs configs old new e is h =
 
 -- a plan of inputs, of their documents where those are given, else of their bytes
 pub shared_count : {I : Type 0} (view : I → IndexView) (index : I) (o : Options) (inputs : List Input)
-    (configs : List (Vec Config)) (documents : List DocumentViews) (old new : IndexCache I) (e : Error)
+    (configs : List (Vec Config)) (documents : List DocumentViews) (old new : IndexCache I) (f : PlanFailure)
     → index_of old ≡ index → AreDocuments documents inputs
     → (length documents ≡ length inputs
-    → IsPlanError o (StopsDocuments inputs configs (cache_view view old) (cache_view view new)) e)
+    → IsPlanFailure o (FailsOnDocuments inputs configs (cache_view view old) (cache_view view new)) f)
     → (documents ≡ []
-    → IsPlanError o (StopsInputs inputs configs (cache_view view old) (cache_view view new)) e)
-    → CountsIndexFault view index e
-shared_count view index o inputs configs documents old new e is (inl none) given read =
-    bytes_count view index o inputs configs old new e is (read none)
-shared_count view index o inputs configs documents old new e is (inr same) given read =
-    documents_counted view index o inputs configs old new e is
+    → IsPlanFailure o (FailsOnInputs inputs configs (cache_view view old) (cache_view view new)) f)
+    → CountsIndexFault view index f.error
+shared_count view index o inputs configs documents old new f is (inl none) given read =
+    bytes_count view index o inputs configs old new f.error is
+    (inputs-error o inputs configs (cache_view view old) (cache_view view new) f (read none))
+shared_count view index o inputs configs documents old new f is (inr same) given read =
+    documents_counted view index o inputs configs old new f.error is
+    (documents-error o inputs configs (cache_view view old) (cache_view view new) f
     (given (sym (length-map documents (λ (d : DocumentViews). d.bytes)) ∙ ap length same
-    ∙ length-map inputs (λ (input : Input). input.bytes.items)))
+    ∙ length-map inputs (λ (input : Input). input.bytes.items))))
 
 -- ---- a plan of versions
 

@@ -20,6 +20,7 @@ use Rattle.edit_sources.specs.declared.published.PublishedBefore.{PublishedBefor
 use Rattle.edit_steps.specs.declared.upgrade_read.index.IndexSource.{IndexSource}
 use Rattle.edit_steps.specs.declared.upgrade_read.index.IndexSource.TheVariants as source
 use Rattle.edit_store.specs.Store.{StoreView, IsRaisedCount}
+use Rattle.edit_upgrade.specs.declared.failure.PlanFailure.{PlanFailure}
 use Rattle.edit_program.specs.Counted.{CountsIndexFault, CountsStoreFault}
 use Rattle.edit_program.specs.Planned.{index_view}
 
@@ -56,28 +57,29 @@ restricted_fault {I} view restricted index e is counts device =
 
 -- a plan over the index in files
 pub local_fault : {T V : Type 0} (files : T → StoreView) (index : LocalIndex T) (store : T)
-    (r : Result V Error) → store_of index ≡ store
-    → IfErr r (CountsIndexFault (λ (i : LocalIndex T). local_view (files_of files i)) index)
-    → IfErr r (CountsStoreFault files store)
+    (r : Result V PlanFailure) → store_of index ≡ store
+    → IfErr r (λ f. CountsIndexFault (λ (i : LocalIndex T). local_view (files_of files i)) index f.error)
+    → IfErr r (λ f. CountsStoreFault files store f.error)
 local_fault {T} files index store r is counts =
-    IfErr-weaker r _ _ (λ e h. store_fails (λ (i : LocalIndex T). local_view (files_of files i)) index files
-    store (λ (i : LocalIndex T). store_of i) e (λ i. refl) is h) counts
+    IfErr-weaker r _ _ (λ f h. store_fails (λ (i : LocalIndex T). local_view (files_of files i)) index files
+    store (λ (i : LocalIndex T). store_of i) f.error (λ i. refl) is h) counts
 
 -- a plan over a folder of registries
 pub folder_fault : {T V : Type 0} (files : T → StoreView) (index : DirIndex T) (store : T)
-    (r : Result V Error) → folder_store index ≡ store
-    → IfErr r (CountsIndexFault (λ (i : DirIndex T). dir_view (folder_of i) (folder_files files i)) index)
-    → IfErr r (CountsStoreFault files store)
+    (r : Result V PlanFailure) → folder_store index ≡ store
+    → IfErr r (λ f.
+    CountsIndexFault (λ (i : DirIndex T). dir_view (folder_of i) (folder_files files i)) index f.error)
+    → IfErr r (λ f. CountsStoreFault files store f.error)
 folder_fault {T} files index store r is counts =
-    IfErr-weaker r _ _ (λ e h. store_fails (λ (i : DirIndex T). dir_view (folder_of i) (folder_files files i))
-    index files store (λ (i : DirIndex T). folder_store i) e (λ i. refl) is h) counts
+    IfErr-weaker r _ _ (λ f h. store_fails (λ (i : DirIndex T). dir_view (folder_of i) (folder_files files i))
+    index files store (λ (i : DirIndex T). folder_store i) f.error (λ i. refl) is h) counts
 
 -- a plan over the lines of a file, which fails for no device
 pub lines_fault : {T V : Type 0} (files : T → StoreView) (index : FileIndex) (store : T)
-    (r : Result V Error) → IfErr r (CountsIndexFault file_view index)
-    → IfErr r (CountsStoreFault files store)
+    (r : Result V PlanFailure) → IfErr r (λ f. CountsIndexFault file_view index f.error)
+    → IfErr r (λ f. CountsStoreFault files store f.error)
 lines_fault files index store r counts =
-    IfErr-weaker r _ _ (λ e h device. absurd (none_raised (h device).1)) counts
+    IfErr-weaker r _ _ (λ f h device. absurd (none_raised (h device).1)) counts
 
 -- what holds over an index in files with a bound holds over the index of the source that names it
 pub over_files : {T : Type 0} (files : T → StoreView) (index : LocalIndex T) (store : T)

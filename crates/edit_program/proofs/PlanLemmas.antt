@@ -15,12 +15,15 @@ use Rattle.edit_cache.specs.declared.cache.IndexCache.{IndexCache}
 use Rattle.edit_sources.specs.declared.config.Config.{Config}
 use Rattle.edit_upgrade.specs.Caches.{CacheView, LeavesCache, StopsDocuments, StopsInputs, cache_view}
 use Rattle.edit_upgrade.specs.Causes.{IsCause}
+use Rattle.edit_upgrade.specs.Failures.{FailsOnDocuments, FailsOnInputs, IsPlanFailure}
 use Rattle.edit_upgrade.specs.Lookups.{AddsNeeded, CachedAnswers, cached_by}
 use Rattle.edit_upgrade.specs.Plans.{IsPlan}
 use Rattle.edit_upgrade.specs.Upgraded.{IsNeeded}
 use Rattle.edit_upgrade.specs.OptionCauses.{IsPlanError}
 use Rattle.edit_upgrade.specs.declared.decision.options.Options.{Options}
+use Rattle.edit_upgrade.specs.declared.failure.PlanFailure.{PlanFailure}
 use Rattle.edit_upgrade.specs.declared.upgrade.UpgradePlan.{UpgradePlan}
+use Rattle.edit_upgrade.proofs.CauseLemmas.{documents-error, inputs-error}
 use Rattle.edit_program.specs.Planned.{IsPlanCause, IsPlanStopped, IsPlanned, empty_answers, cache_over}
 
 -- a new cache is empty
@@ -129,18 +132,20 @@ both_causes (Err e) P Q R both p q = both e p q
 
 -- a plan of inputs that is refused: of their documents where those are given, else of their bytes
 pub shared_refused : {I : Type 0} (view : I → IndexView) (index : I) (o : Options) (inputs : List Input)
-    (configs : List (Vec Config)) (documents : List DocumentViews) (old new : IndexCache I) (e : Error)
+    (configs : List (Vec Config)) (documents : List DocumentViews) (old new : IndexCache I) (f : PlanFailure)
     → index_of old ≡ index → ((address name : List ℕ) → cached_answer_at old address name ≡ None)
     → LeavesCache (IsNeeded inputs configs) (cache_view view old) (cache_view view new)
     → AreDocuments documents inputs
     → (length documents ≡ length inputs
-    → IsPlanError o (StopsDocuments inputs configs (cache_view view old) (cache_view view new)) e)
+    → IsPlanFailure o (FailsOnDocuments inputs configs (cache_view view old) (cache_view view new)) f)
     → (documents ≡ []
-    → IsPlanError o (StopsInputs inputs configs (cache_view view old) (cache_view view new)) e)
-    → IsMemory e ⊎ IsPlanCause o inputs configs (view index) e
-shared_refused view index o inputs configs documents old new e is empty left (inl none) given read =
-    bytes_refused view index o inputs configs old new e is empty left (read none)
-shared_refused view index o inputs configs documents old new e is empty left (inr same) given read =
-    documents_refused view index o inputs configs old new e is empty left
+    → IsPlanFailure o (FailsOnInputs inputs configs (cache_view view old) (cache_view view new)) f)
+    → IsMemory f.error ⊎ IsPlanCause o inputs configs (view index) f.error
+shared_refused view index o inputs configs documents old new f is empty left (inl none) given read =
+    bytes_refused view index o inputs configs old new f.error is empty left
+    (inputs-error o inputs configs (cache_view view old) (cache_view view new) f (read none))
+shared_refused view index o inputs configs documents old new f is empty left (inr same) given read =
+    documents_refused view index o inputs configs old new f.error is empty left
+    (documents-error o inputs configs (cache_view view old) (cache_view view new) f
     (given (sym (length-map documents (λ (d : DocumentViews). d.bytes)) ∙ ap length same
-    ∙ length-map inputs (λ (input : Input). input.bytes.items)))
+    ∙ length-map inputs (λ (input : Input). input.bytes.items))))

@@ -18,10 +18,11 @@ use Rattle.edit_program.specs.Delivered.{AreBothWritten}
 use Rattle.edit_program.specs.Delivery.{Delivery}
 use Rattle.edit_program.specs.Followed.{AreByPolicy, HasBadPolicy, HasNoUpgradeIndex, IsReady}
 use Rattle.edit_program.specs.LockRead.{HasNoLock}
-use Rattle.edit_program.specs.UpgradeCauses.{IsUnplanned, IsUpgradeCause}
-use Rattle.edit_program.specs.UpgradeErrors.{IsReadingError}
+use Rattle.edit_program.specs.PlannedUpgrades.{prints_nothing}
+use Rattle.edit_program.specs.UpgradeCauses.{IsUnfit, IsUnplanned, IsUpgradeCause}
+use Rattle.edit_program.specs.UpgradeErrors.{IsReadingError, IsUpgradeError}
 use Rattle.edit_program.specs.Planned.{IsPlanCause, to_manifest_request, upgrade_index}
-use Rattle.edit_program.specs.Run.{run_at}
+use Rattle.edit_program.specs.Run.{Run, run_at}
 use Rattle.edit_program.specs.Revising.{IsRevisionError}
 use Rattle.edit_program.specs.Upgrading.{IsPathOf, IsPlannedFor, IsRevisedFor, delivery_for}
 use Rattle.edit_program.specs.declared.upgrade_run.following.Readings.{Readings}
@@ -153,3 +154,58 @@ stop_cause HasFields args current home local old mid new r single plan apart pat
         ends = ends;
       }),
     ))))
+
+-- ---- an error before anything is printed
+
+stopped_unprinted : (Prints : List ℕ → Type 0) (d : Delivery) (old new : StoreView) (e : Error)
+    → IsStopped prints_nothing d old new e → IsStopped Prints d old new e
+stopped_unprinted Prints d old new e (inl blocked) = inl blocked
+stopped_unprinted Prints d old new e (inr (written, names)) = absurd written.shows
+
+error_unprinted : (Prints : List ℕ → Type 0) (args : UpgradeArgs) (run : Run) (e : Error)
+    → IsUpgradeError prints_nothing args run e → IsUpgradeError Prints args run e
+error_unprinted Prints args run e (inl reading) = inl reading
+error_unprinted Prints args run e (inr (inl planning)) = inr (inl planning)
+error_unprinted Prints args run e (inr (inr (inl choice))) = inr (inr (inl choice))
+error_unprinted Prints args run e (inr (inr (inr h))) = inr (inr (inr (record {
+  readings = h.readings;
+  single = h.single;
+  plan = h.plan;
+  apart = h.apart;
+  path = h.path;
+  by_policy = h.by_policy;
+  planned = h.planned;
+  revised = h.revised;
+  at = h.at;
+  stopped = stopped_unprinted Prints (delivery_for h.readings run.current h.plan h.apart h.path) run.old
+      run.new e h.stopped;
+})))
+
+unfit_unprinted : (Prints : List ℕ → Type 0) (args : UpgradeArgs) (run : Run) (e : Error)
+    → IsUnfit prints_nothing args run e → IsUnfit Prints args run e
+unfit_unprinted Prints args run e (inl unprepared) = inl unprepared
+unfit_unprinted Prints args run e (inr h) = inr (record {
+  readings = h.readings;
+  single = h.single;
+  plan = h.plan;
+  apart = h.apart;
+  path = h.path;
+  ready = h.ready;
+  planned = h.planned;
+  revised = h.revised;
+  at = h.at;
+  ends = stopped_unprinted Prints (delivery_for h.readings run.current h.plan h.apart h.path) run.old run.new
+      e h.ends;
+})
+
+-- the cause of an error before anything is printed is one whatever is printed
+pub unprinted : (Prints : List ℕ → Type 0) (args : UpgradeArgs) (run : Run) (e : Error)
+    → IsUpgradeCause prints_nothing args run e → IsUpgradeCause Prints args run e
+unprinted Prints args run e (inl memory) = inl memory
+unprinted Prints args run e (inr (inl failed)) = inr (inl failed)
+unprinted Prints args run e (inr (inr (inl write))) = inr (inr (inl write))
+unprinted Prints args run e (inr (inr (inr (inl unwritten)))) = inr (inr (inr (inl unwritten)))
+unprinted Prints args run e (inr (inr (inr (inr (error, unfit))))) = inr (inr (inr (inr (
+  error_unprinted Prints args run e error,
+  λ t. unfit_unprinted Prints args run e (unfit t),
+))))

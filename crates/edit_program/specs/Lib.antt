@@ -40,4 +40,5 @@ pub mod Delivered
 pub mod DeliveryCauses
 pub mod Counted
 pub mod ChosenVersions
+pub mod PlannedUpgrades
 pub mod LockPlans

@@ -10,10 +10,6 @@ use Rattle.edit_program.specs.declared.upgrade_run.following.Readings.{Readings}
 use Rattle.edit_program.specs.declared.upgrade_run.lock_planning.LockPlan.{LockPlan}
 use Rattle.edit_program.specs.declared.upgrade_run.upgrade_args.UpgradeArgs.{UpgradeArgs}
 
--- no text is printed (own)
-abbrev pub prints_nothing : List ℕ → Type 0
-prints_nothing text = ⊥
-
 -- the given files were read and planned by the policy, and the plan is unified and restricted to chosen
 -- rows, if that is requested; the options, the bound and the policy of crates are those of the run (own)
 pub record IsLockPlan (args : UpgradeArgs) (current : List ℕ) (home : Option (List ℕ)) (local : StoreView)

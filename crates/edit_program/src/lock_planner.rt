@@ -6,7 +6,8 @@ ghost use Rattle.edit_sources.specs.Configured.{given};
 ghost use Rattle.edit_store.specs.Store.{OnlyReads};
 ghost use Rattle.edit_program.specs.Commands.{HasUpgradeCause};
 ghost use Rattle.edit_program.specs.Counted.{CountsEitherFault};
-ghost use Rattle.edit_program.specs.LockPlans.{HasLockPlan, prints_nothing};
+ghost use Rattle.edit_program.specs.LockPlans.{HasLockPlan};
+ghost use Rattle.edit_program.specs.PlannedUpgrades.{prints_nothing};
 ghost use Rattle.edit_program.specs.ParsedUpgrade.{HaveUpgradeFault};
 ghost use Rattle.edit_program.specs.Run.{run_at};
 

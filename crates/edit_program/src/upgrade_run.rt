@@ -8,6 +8,7 @@ mod lock_planning;
 mod lookup_printing;
 mod merging;
 mod plan;
+mod planning;
 mod policy_age;
 mod policy_reading;
 mod reading;

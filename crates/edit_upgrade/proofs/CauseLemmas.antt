@@ -6,11 +6,12 @@ use Rattle.edit_base.specs.Errors.{IsMemory}
 use Rattle.edit_base.specs.declared.errors.Error.{Error}
 use Rattle.edit_manifest.specs.Loaded.{IsBadManifest}
 use Rattle.edit_metadata.specs.declared.input.Input.{Input}
-use Rattle.edit_sources.specs.Index.{Outcomes}
 use Rattle.edit_sources.specs.declared.config.Config.{Config}
 use Rattle.edit_upgrade.specs.Caches.{CacheView, LeavesCache, StopsDocuments, StopsInputs, StopsManifest}
-use Rattle.edit_upgrade.specs.Causes.{FirstInput, InputPasses, HasBadEntry}
+use Rattle.edit_upgrade.specs.Causes.{FirstInput, InputPasses}
+use Rattle.edit_upgrade.specs.Failures.{FailsAtBytes, FailsAtEntry, FailsOnDocuments, FailsOnInputs, IsPlanFailure}
 use Rattle.edit_upgrade.specs.LookupSteps.{Stays}
+use Rattle.edit_upgrade.specs.OptionCauses.{IsPlanError}
 use Rattle.edit_upgrade.specs.Lookups.{CachedAnswers}
 use Rattle.edit_report.specs.declared.row.Row.{Row}
 use Rattle.edit_upgrade.specs.Drafts.{ArePlanned}
@@ -20,6 +21,7 @@ use Rattle.edit_upgrade.specs.Records.{row_entries}
 use Rattle.edit_upgrade.specs.Rows.{Line}
 use Rattle.edit_upgrade.specs.Upgraded.{IsNeeded}
 use Rattle.edit_upgrade.specs.declared.decision.options.Options.{Options}
+use Rattle.edit_upgrade.specs.declared.failure.PlanFailure.{PlanFailure}
 use Rattle.edit_tree.specs.Tree.{view_at}
 use Rattle.edit_report.specs.declared.output.Output.{Output}
 use Rattle.std.proofs.lemmas.List.Elements.{All-head}
@@ -45,10 +47,18 @@ bad-from Needed own bytes was now next e left h = record {
   };
 }
 
+-- the failure at an entry, from the state where the plan of all began
+fails-from : (Needed : List ℕ → List ℕ → Type 0) (i : ℕ) (own : List Config) (bytes : List ℕ)
+    (was now next : CacheView) (f : PlanFailure) → LeavesCache Needed was now
+    → FailsAtEntry i own bytes now next f → FailsAtEntry i own bytes was next f
+unfolding bad-from
+fails-from Needed i own bytes was now next f left (bad, from) =
+    (bad-from Needed own bytes was now next f.error left bad, from)
+
 -- a plan of inputs at one of them, before which others were planned
 module _ {o : Options} {inputs : List Input} {configs : List (Vec Config)} {k : ℕ} {x : Input}
     {own : Vec Config} {here : List Config} {ls : List Line} {os : List Output} {ts : List WarningView}
-    (was now next : CacheView) (e : Error) (at : IsInputAt inputs configs k x own here)
+    (was now next : CacheView) (f : PlanFailure) (at : IsInputAt inputs configs k x own here)
     (p : ArePlanned o now.cached (take k inputs) (take k configs) ls os ts)
     (left : LeavesCache (IsNeeded inputs configs) was now) (stays : Stays now.cached next.cached) where
   -- the inputs before it are passed
@@ -63,7 +73,7 @@ module _ {o : Options} {inputs : List Input} {configs : List (Vec Config)} {k : 
         passed = passed-stays d.items now.cached next.cached (row_entries (view_at q.form)) stays q.passed;
       })
 
-  stops-here : (Stops : List Config → List ℕ → Type 0) → Stops own.items x.bytes.items
+  stops-here : (Stops : ℕ → List Config → List ℕ → Type 0) → Stops k own.items x.bytes.items
       → FirstInput inputs configs next.cached Stops
   stops-here Stops h = record {
     i = k;
@@ -76,49 +86,94 @@ module _ {o : Options} {inputs : List Input} {configs : List (Vec Config)} {k : 
   }
 
   -- one of its entries stops it
-  entry-here : StopsManifest here x.bytes.items now next e
-      → StopsManifest own.items x.bytes.items was next e
-  entry-here bad = bad-from (IsNeeded inputs configs) own.items x.bytes.items was now next e left
-      (subst (λ (cs : List Config). StopsManifest cs x.bytes.items now next e) at.here_is bad)
+  entry-here : FailsAtEntry k here x.bytes.items now next f
+      → FailsAtEntry k own.items x.bytes.items was next f
+  entry-here fails = fails-from (IsNeeded inputs configs) k own.items x.bytes.items was now next f left
+      (subst (λ (cs : List Config). FailsAtEntry k cs x.bytes.items now next f) at.here_is fails)
 
-  pub given-refused : IsMemory e ⊎ StopsManifest here x.bytes.items now next e
-      → StopsDocuments inputs configs was next e
-  given-refused (inl memory) = inl memory
-  given-refused (inr bad) = inr (stops-here
-      (λ cs bytes. StopsManifest cs bytes was next e) (entry-here bad))
+  pub given-fails : IsMemory f.error ⊎ FailsAtEntry k here x.bytes.items now next f
+      → FailsOnDocuments inputs configs was next f
+  given-fails (inl memory) = inl memory
+  given-fails (inr fails) = inr (stops-here
+      (λ i cs bytes. FailsAtEntry i cs bytes was next f) (entry-here fails))
 
-  pub read-refused : IsBadManifest x.bytes.items e ⊎ StopsManifest here x.bytes.items now next e
-      → StopsInputs inputs configs was next e
-  read-refused (inl none) = stops-here (λ cs bytes. IsBadManifest bytes e ⊎ StopsManifest cs bytes was next e)
-      (inl none)
-  read-refused (inr bad) = stops-here (λ cs bytes. IsBadManifest bytes e ⊎ StopsManifest cs bytes was next e)
-      (inr (entry-here bad))
+  pub read-fails : FailsAtBytes k x.bytes.items f ⊎ FailsAtEntry k here x.bytes.items now next f
+      → FailsOnInputs inputs configs was next f
+  read-fails (inl none) = stops-here
+      (λ i cs bytes. FailsAtBytes i bytes f ⊎ FailsAtEntry i cs bytes was next f) (inl none)
+  read-fails (inr fails) = stops-here
+      (λ i cs bytes. FailsAtBytes i bytes f ⊎ FailsAtEntry i cs bytes was next f) (inr (entry-here fails))
 
 -- memory ran out after all inputs were planned
-pub finish-refused : {o : Options} {cached : CachedAnswers} {ls : List Line} {os : List Output} {ts : List WarningView}
-    (inputs : List Input) (configs : List (Vec Config)) (was next : CacheView) (e : Error)
+pub finish-fails : {o : Options} {cached : CachedAnswers} {ls : List Line} {os : List Output} {ts : List WarningView}
+    (inputs : List Input) (configs : List (Vec Config)) (was next : CacheView) (f : PlanFailure)
     → ArePlanned o cached inputs configs ls os ts → length configs ≡ length inputs → (ls ≡ [] → ⊥)
-    → All (λ (x : Input). IsUtf8 x.bytes.items) inputs → IsMemory e
-    → StopsInputs inputs configs was next e
-finish-refused [] configs was next e p long some utf8 memory = absurd (some p.rows_in_order)
-finish-refused (x ∷ xs) [] was next e p long some utf8 memory = absurd (omega (arith, long))
-finish-refused (x ∷ xs) (own ∷ cs) was next e p long some utf8 memory = record {
+    → All (λ (x : Input). IsUtf8 x.bytes.items) inputs → IsMemory f.error
+    → FailsOnInputs inputs configs was next f
+finish-fails [] configs was next f p long some utf8 memory = absurd (some p.rows_in_order)
+finish-fails (x ∷ xs) [] was next f p long some utf8 memory = absurd (omega (arith, long))
+finish-fails (x ∷ xs) (own ∷ cs) was next f p long some utf8 memory = record {
   i = 0;
   input = x;
   own = own;
   at = refl;
   configured = refl;
   passed = λ j low. absurd (omega (arith, low));
-  stops = inl (inr (inr (memory, All-head (λ (y : Input). IsUtf8 y.bytes.items) x xs utf8)));
+  stops = inl (
+    inr (inr (memory, All-head (λ (y : Input). IsUtf8 y.bytes.items) x xs utf8)),
+    inl memory,
+  );
 }
 
--- memory ran out while a manifest was planned that was read
-pub read-cause : (own : List Config) (gives : Outcomes) (old new : CachedAnswers) (a c : ℕ) (bytes : List ℕ)
-    (e : Error) → IsUtf8 bytes
-    → IsMemory e ⊎ HasBadEntry own gives old new a c bytes e → IsBadManifest bytes e
-    ⊎ HasBadEntry own gives old new a c bytes e
-read-cause own gives old new a c bytes e utf8 (inl memory) = inl (inr (inr (memory, utf8)))
-read-cause own gives old new a c bytes e utf8 (inr bad) = inr bad
+-- the cause of a failure is the cause of its error
+documents-cause : (inputs : List Input) (configs : List (Vec Config)) (was next : CacheView)
+    (f : PlanFailure) → FailsOnDocuments inputs configs was next f
+    → StopsDocuments inputs configs was next f.error
+documents-cause inputs configs was next f (inl memory) = inl memory
+documents-cause inputs configs was next f (inr first) = inr (record {
+  i = first.i;
+  input = first.input;
+  own = first.own;
+  at = first.at;
+  configured = first.configured;
+  passed = first.passed;
+  stops = first.stops.0;
+})
+
+inputs-cause : (inputs : List Input) (configs : List (Vec Config)) (was next : CacheView)
+    (f : PlanFailure) → FailsOnInputs inputs configs was next f
+    → StopsInputs inputs configs was next f.error
+inputs-cause inputs configs was next f first = record {
+  i = first.i;
+  input = first.input;
+  own = first.own;
+  at = first.at;
+  configured = first.configured;
+  passed = first.passed;
+  stops = by first.stops;
+}
+  where
+    by : FailsAtBytes first.i first.input.bytes.items f
+        ⊎ FailsAtEntry first.i first.own.items first.input.bytes.items was next f
+        → IsBadManifest first.input.bytes.items f.error
+        ⊎ StopsManifest first.own.items first.input.bytes.items was next f.error
+    by (inl bytes) = inl bytes.0
+    by (inr entry) = inr entry.0
+
+-- the same, where the error may be one of the options
+pub documents-error : (o : Options) (inputs : List Input) (configs : List (Vec Config)) (was next : CacheView)
+    (f : PlanFailure) → IsPlanFailure o (FailsOnDocuments inputs configs was next) f
+    → IsPlanError o (StopsDocuments inputs configs was next) f.error
+documents-error o inputs configs was next f (inl options) = inl options
+documents-error o inputs configs was next f (inr (args, fails)) =
+    inr (args, documents-cause inputs configs was next f fails)
+
+pub inputs-error : (o : Options) (inputs : List Input) (configs : List (Vec Config)) (was next : CacheView)
+    (f : PlanFailure) → IsPlanFailure o (FailsOnInputs inputs configs was next) f
+    → IsPlanError o (StopsInputs inputs configs was next) f.error
+inputs-error o inputs configs was next f (inl options) = inl options
+inputs-error o inputs configs was next f (inr (args, fails)) =
+    inr (args, inputs-cause inputs configs was next f fails)
 
 -- rows that are there tell something
 pub rows-some : (rows : List Row) → (rows ≡ [] → ⊥) → map line_of rows ≡ [] → ⊥

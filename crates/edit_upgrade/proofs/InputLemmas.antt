@@ -107,17 +107,17 @@ only-outputs inputs x p e h =
     (subst (λ (xs : List Input). OutputsInOrder xs p) e h)
 
 -- the only input is the first at which a plan does not go on
-of-first : (x : Input) (own : Vec Config) (new : CachedAnswers) (Stops : List Config → List ℕ → Type 0)
-    → FirstInput (x ∷ []) (own ∷ []) new Stops
-    → Stops own.items x.bytes.items
+of-first : (x : Input) (own : Vec Config) (new : CachedAnswers)
+    (Stops : ℕ → List Config → List ℕ → Type 0) → FirstInput (x ∷ []) (own ∷ []) new Stops
+    → Stops 0 own.items x.bytes.items
 of-first x own new Stops f = by f.i f.input f.own f.at f.configured f.stops
   where
     by : (i : ℕ) (input : Input) (c : Vec Config) → slice_get (x ∷ []) i ≡ Some input
         → slice_get (own ∷ []) i ≡ Some c
-        → Stops c.items input.bytes.items → Stops own.items x.bytes.items
+        → Stops i c.items input.bytes.items → Stops 0 own.items x.bytes.items
     by zero input c e g h =
-        subst (λ (d : Vec Config). Stops d.items x.bytes.items) (sym (same-some own c g))
-        (subst (λ (y : Input). Stops c.items y.bytes.items) (sym (same-some x input e)) h)
+        subst (λ (d : Vec Config). Stops 0 d.items x.bytes.items) (sym (same-some own c g))
+        (subst (λ (y : Input). Stops 0 c.items y.bytes.items) (sym (same-some x input e)) h)
     by (suc k) input c e g h = cc e
 
 -- why a plan over the only input is refused
@@ -128,8 +128,8 @@ pub of-entry_cause : (inputs : List Input) (configs : List (Vec Config)) (x : In
     → IsMemory e ⊎ HasBadEntry own.items gives old new before now x.bytes.items e
 of-entry_cause inputs configs x own gives old new before now e p q (inl memory) = inl memory
 of-entry_cause inputs configs x own gives old new before now e p q (inr f) =
-    inr (of-first x own new (λ cs bytes. HasBadEntry cs gives old new before now bytes e)
+    inr (of-first x own new (λ i cs bytes. HasBadEntry cs gives old new before now bytes e)
     (subst (λ (cs : List (Vec Config)). FirstInput (x ∷ []) cs new
-    (λ ds bytes. HasBadEntry ds gives old new before now bytes e)) q
+    (λ i ds bytes. HasBadEntry ds gives old new before now bytes e)) q
     (subst (λ (xs : List Input). FirstInput xs configs new
-    (λ ds bytes. HasBadEntry ds gives old new before now bytes e)) p f)))
+    (λ i ds bytes. HasBadEntry ds gives old new before now bytes e)) p f)))

@@ -1,5 +1,5 @@
 -- The rows and lookups of a manifest, from those of its entries.
-use Rattle.std.proofs.Common.{◌≡◌, [], List, ℕ, Result, Ok, Err, map, ap, ◌∙◌, sym, subst, inl, inr, ◌⊎◌, length}
+use Rattle.std.proofs.Common.{◌≡◌, [], List, ℕ, None, Result, Ok, Err, map, ap, ◌∙◌, sym, subst, inl, inr, ◌⊎◌, length}
 use Rattle.std.specs.Prelude.{◌&&◌, ◌||◌, All, Bool, IfErr, IsErrAnd, option_map}
 use Rattle.std.specs.List.{list_any}
 use Rattle.std.specs.Str.{bytes_eq}
@@ -17,7 +17,9 @@ use Rattle.edit_manifest.specs.Entries as found
 use Rattle.edit_manifest.specs.Entries.{entries}
 use Rattle.edit_sources.specs.Index.{Outcomes}
 use Rattle.edit_sources.specs.declared.config.Config.{Config}
-use Rattle.edit_upgrade.specs.Causes.{HasBadEntry, IsPassed, StopsFirst}
+use Rattle.edit_upgrade.specs.Caches.{CacheView}
+use Rattle.edit_upgrade.specs.Causes.{IsPassed}
+use Rattle.edit_upgrade.specs.Failures.{FailsAt, FailsAtEntry}
 use Rattle.edit_upgrade.specs.Found.{row_entry_view}
 use Rattle.edit_upgrade.specs.Lines.{line_of}
 use Rattle.edit_upgrade.specs.Lists.{AreWarnings, WarningView}
@@ -33,6 +35,7 @@ use Rattle.edit_upgrade.specs.EntrySelection.{is_named, package_args_of}
 use Rattle.edit_upgrade.specs.declared.planned.Planned.{Planned}
 use Rattle.edit_upgrade.specs.declared.entries_with_rows.Entry.{Entry}
 use Rattle.edit_upgrade.specs.declared.decision.options.Options.{Options}
+use Rattle.edit_upgrade.specs.declared.failure.PlanFailure.{PlanFailure}
 use Rattle.edit_upgrade.specs.declared.walk.LookupLog.{LookupLog}
 use Rattle.edit_metadata.specs.declared.input.Input.{Input}
 use Rattle.edit_version.specs.RustVersions.{numbers_of}
@@ -46,11 +49,18 @@ same-seen d form h =
     let same : tree_of d ≡ view_at form = λ i p. h p i in
     ap row_entries same
 
--- what is refused with an error of this cause has it
-pub failure-has : {T : Type 0} (r : Result T Error) (e : Error) (P : Error → Type 0)
+-- what fails with an error that has a property has it
+pub failure-has : {T E : Type 0} (r : Result T E) (e : E) (P : E → Type 0)
     → IsErrAnd r (λ other. other ≡ e) → P e → IfErr r P
 failure-has (Ok x) e P same h = tt
 failure-has (Err other) e P same h = subst P (sym same) h
+
+-- the same, where `?` makes a failure from an error
+pub failure-of : {T : Type 0} (r : Result T PlanFailure) (e : Error) (P : PlanFailure → Type 0)
+    → IsErrAnd r (λ f. (f.error ≡ e) × (f.origin ≡ None)) → ((f : PlanFailure) → f.error ≡ e → P f)
+    → IfErr r P
+failure-of (Ok x) e P same h = tt
+failure-of (Err f) e P same h = h f same.0
 
 -- they are seen in whatever form
 pub seen-in : (bytes : List ℕ) (es : List RowEntry) → (a : AreRowEntries bytes es) → (f : Text) → IsDocument bytes f
@@ -139,17 +149,15 @@ planned-left configs bytes first last b c old now es a left =
     leaves-wider (IsNeededBy configs bytes) (IsNeededIn configs es) first last b c old now
     (to-manifest configs bytes es a) left
 
--- why they stop
-pub planned-refused : (configs : List Config) (bytes : List ℕ) (first : Outcomes) (old now : CachedAnswers)
-    (b c : ℕ) (es : List RowEntry) (e : Error) → AreRowEntries bytes es
-    → IsMemory e ⊎ StopsFirst configs first old now b c es e → IsMemory e
-    ⊎ HasBadEntry configs first old now b c bytes e
-planned-refused configs bytes first old now b c es e a (inl memory) = inl memory
-planned-refused configs bytes first old now b c es e a (inr stops) = inr (record {
-  form = a.form;
-  manifest = a.manifest;
-  stops = subst (λ (xs : List RowEntry). StopsFirst configs first old now b c xs e) a.are stops;
-})
+-- at which of them a plan fails
+pub planned-fails : (i : ℕ) (configs : List Config) (bytes : List ℕ) (was now : CacheView)
+    (es : List RowEntry) (f : PlanFailure) → AreRowEntries bytes es
+    → IsMemory f.error ⊎ FailsAt i configs was now es f
+    → IsMemory f.error ⊎ FailsAtEntry i configs bytes was now f
+planned-fails i configs bytes was now es f a (inl memory) = inl memory
+planned-fails i configs bytes was now es f a (inr fails) =
+    let own = subst (λ (xs : List RowEntry). FailsAt i configs was now xs f) a.are fails in
+    inr (record { form = a.form; manifest = a.manifest; stops = own.0 }, own.1)
 
 -- the warnings on the entries of a document are those of the manifest
 pub planned-warnings : (o : Options) (number : ℕ) (bytes : List ℕ) (d : DocumentViews) (es : List found.Entry)

@@ -15,6 +15,8 @@ use Rattle.url.specs.Parts as url
 use Rattle.url.specs.Parts.{serialize}
 use Rattle.edit_upgrade.specs.Causes.{IsPassed, StopsAt, StopsFirst}
 use Rattle.edit_upgrade.specs.Causes.StopsAt.{no_address, no_answer}
+use Rattle.edit_upgrade.specs.Failures.{IsFrom}
+use Rattle.edit_upgrade.specs.Failures.Cause.{at_entry}
 use Rattle.edit_upgrade.specs.LookupSteps.{IsAt, IsEntryStep, IsLookupError, IsStep, Leaves, PairSet, Stays}
 use Rattle.edit_upgrade.specs.Lookups.{Answer, AreLookups, CachedAnswers, answer_in, cached_basis, lookup_versions, versions_in}
 use Rattle.edit_upgrade.specs.Records.{RowEntry, at_registry}
@@ -22,6 +24,7 @@ use Rattle.edit_upgrade.specs.Rows.{AreDecided, AreVersionsFor, Basis, IsRowBy, 
 use Rattle.edit_upgrade.specs.Upgraded.{IsNeededFor, IsNeededIn}
 use Rattle.edit_upgrade.specs.declared.upgrade.Look.{Look}
 use Rattle.edit_upgrade.specs.declared.decision.options.Options.{Options}
+use Rattle.edit_upgrade.specs.declared.failure.PlanFailure.{PlanFailure}
 use Rattle.edit_upgrade.proofs.FixedPoint.{not-both, one-named}
 use Rattle.edit_upgrade.proofs.LookUpLemmas.{answered, leaves-wider, refused-with}
 
@@ -157,18 +160,26 @@ stopped configs first last old now next a b c es front e rest error split m same
   stops = stops-from configs first last old now a b c e error same before le h;
 }
 
--- why a walk is refused at an entry
-pub walk-refused : (configs : List Config) (first last : Outcomes) (old now next : CachedAnswers) (a b c : ℕ)
+-- how a walk fails at an entry
+pub walk-fails : (configs : List Config) (first last : Outcomes) (old now next : CachedAnswers) (a b c : ℕ)
     (es front : List RowEntry) (e : RowEntry) (rest : List RowEntry)
-    (error : Error) → es ≡ front ++ e ∷ rest → All (IsPassed configs now) front → SameOutcomes first last
-    → Stays old now → Stays now next → a ≤ b
-    → IsMemory error ⊎ StopsAt configs last now b c e error → IsMemory error
-    ⊎ StopsFirst configs first old next a c es error
-walk-refused configs first last old now next a b c es front e rest error split m same before after le
+    (error : Error) (i : ℕ) (f : PlanFailure) → es ≡ front ++ e ∷ rest → All (IsPassed configs now) front
+    → SameOutcomes first last → Stays old now → Stays now next → a ≤ b
+    → IsMemory error ⊎ StopsAt configs last now b c e error
+    → IsMemory f.error ⊎ ((f.error ≡ error) × IsFrom f (at_entry i e.place))
+    → IsMemory f.error
+    ⊎ (stops : StopsFirst configs first old next a c es f.error) × IsFrom f (at_entry i stops.entry.place)
+unfolding stopped
+walk-fails configs first last old now next a b c es front e rest error i f split m same before after le h
     (inl memory) = inl memory
-walk-refused configs first last old now next a b c es front e rest error split m same before after le
-    (inr h) =
-    inr (stopped configs first last old now next a b c es front e rest error split m same before after le h)
+walk-fails configs first last old now next a b c es front e rest error i f split m same before after le
+    (inl memory) (inr from) = inl (subst IsMemory (sym from.0) memory)
+walk-fails configs first last old now next a b c es front e rest error i f split m same before after le
+    (inr h) (inr from) = inr (
+      stopped configs first last old now next a b c es front e rest f.error split m same before after le
+          (subst (λ (x : Error). StopsAt configs last now b c e x) (sym from.0) h),
+      from.1,
+    )
 
 -- an item of a list is among what a function gives of the list
 pub contains-item : {A B : Type 0} (f : A → B) (xs : List A) (i : ℕ) (x : A) → i < length xs → x

@@ -59,9 +59,9 @@ pub record InputPasses (configs : List Config) (new : CachedAnswers) (input : In
   pub manifest : IsDocument input.bytes.items form
   pub passed : All (IsPassed configs new) (row_entries (view_at form))
 
--- the first of the inputs that causes an error, for this reason
+-- the first of the inputs that causes an error, for this reason, which names it by its index
 pub record FirstInput (inputs : List Input) (configs : List (Vec Config)) (new : CachedAnswers)
-    (Stops : List Config → List ℕ → Type 0) : Type 0 where
+    (Stops : ℕ → List Config → List ℕ → Type 0) : Type 0 where
   pub i : ℕ
   pub input : Input
   pub own : Vec Config
@@ -70,7 +70,7 @@ pub record FirstInput (inputs : List Input) (configs : List (Vec Config)) (new :
   pub passed : (j : ℕ) → j < i
       → IfSome (slice_get inputs j)
       (λ earlier. IfSome (slice_get configs j) (λ c. InputPasses c.items new earlier))
-  pub stops : Stops own.items input.bytes.items
+  pub stops : Stops i own.items input.bytes.items
 
 -- the error of a plan over parsed manifests: out of memory, or the first input with an entry that causes
 -- one
@@ -78,7 +78,7 @@ abbrev pub IsEntryCause : List Input → List (Vec Config) → Outcomes → Cach
     → Error → Type 0
 IsEntryCause inputs configs gives old new before now e =
     IsMemory e
-    ⊎ FirstInput inputs configs new (λ own bytes. HasBadEntry own gives old new before now bytes e)
+    ⊎ FirstInput inputs configs new (λ i own bytes. HasBadEntry own gives old new before now bytes e)
 
 -- the error of a plan: out of memory, or the first input whose bytes are no manifest or that has an entry
 -- with an error
@@ -86,4 +86,4 @@ abbrev pub IsCause : List Input → List (Vec Config) → Outcomes → CachedAns
     → Type 0
 IsCause inputs configs gives old new before now e =
     FirstInput inputs configs new
-    (λ own bytes. IsBadManifest bytes e ⊎ HasBadEntry own gives old new before now bytes e)
+    (λ i own bytes. IsBadManifest bytes e ⊎ HasBadEntry own gives old new before now bytes e)

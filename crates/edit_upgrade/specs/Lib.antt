@@ -22,6 +22,7 @@ pub mod OptionLevels
 pub mod PackageSelection
 pub mod OptionCauses
 pub mod Caches
+pub mod Failures
 pub mod Plans
 pub mod Missing
 pub mod Decision

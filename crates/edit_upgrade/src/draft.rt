@@ -3,11 +3,11 @@ ghost use Rattle.std.specs.Prelude.{◌≡◌, ◌≢◌, ◌++◌, ◌⊎◌, [
 ghost use Rattle.std.specs.BTreeSet.{contains_text};
 ghost use Rattle.edit_base.specs.Errors.{IsMemory};
 ghost use Rattle.edit_report.specs.declared.output.Output.{Output};
-ghost use Rattle.edit_manifest.specs.Loaded.{IsBadManifest};
 ghost use Rattle.edit_cache.specs.IndexCache.{index_of};
 ghost use Rattle.edit_upgrade.specs.Addresses.{AreAddresses};
-ghost use Rattle.edit_upgrade.specs.Caches.{LeavesCache, StopsManifest, cache_view};
+ghost use Rattle.edit_upgrade.specs.Caches.{LeavesCache, cache_view};
 ghost use Rattle.edit_upgrade.specs.Drafts.{AddsInput};
+ghost use Rattle.edit_upgrade.specs.Failures.{FailsAtBytes, FailsAtEntry};
 ghost use Rattle.edit_upgrade.specs.Lines.{line_of};
 ghost use Rattle.edit_upgrade.specs.Lists.{HasRowLists, warning_view};
 ghost use Rattle.edit_upgrade.specs.LookupSteps.{AreAllCached};
@@ -19,6 +19,7 @@ ghost use Rattle.edit_upgrade.specs.PlannedView.{IsPlannedView};
 ghost use Rattle.edit_upgrade.specs.Upgraded.{IsNeededBy};
 
 use crate::addresses::Addresses;
+use crate::failure::{PlanFailure, at_input};
 use crate::lists::{git_crates, has_incompatible, has_pinned, modified_names};
 use crate::lookup_log::PairSet;
 use crate::names::Names;
@@ -140,7 +141,7 @@ fn add_input<I: Index>(
     addresses: &mut Addresses<'_>,
     draft: &mut Draft,
     index: &mut IndexCache<I>,
-) -> CargoResult<()>
+) -> Result<(), PlanFailure>
     requires document { document.now.bytes ≡ job.input.now.bytes.items }
     requires addresses { AreAddresses addresses.old.configs.now addresses.old }
     requires preserved { AreAllCached (holds_pair draft.old.books.pairs) (cached_by index.old) }
@@ -153,9 +154,9 @@ fn add_input<I: Index>(
         (contains_text draft.old.known) (contains_text draft.new.known)) }
     ensures left { LeavesCache (IsNeededBy addresses.old.configs.now job.entry.input.now.bytes.items)
         (cache_view I.view index.old) (cache_view I.view index.new) }
-    ensures error { IfErr result (λ e. IsMemory e
-        ⊎ StopsManifest addresses.old.configs.now job.entry.input.now.bytes.items
-        (cache_view I.view index.old) (cache_view I.view index.new) e) }
+    ensures error { IfErr result (λ f. IsMemory f.error
+        ⊎ FailsAtEntry job.entry.number addresses.old.configs.now job.entry.input.now.bytes.items
+        (cache_view I.view index.old) (cache_view I.view index.new) f) }
 {
     let books = &mut draft.books;
     let known = &mut draft.known;
@@ -172,7 +173,7 @@ pub(crate) fn add_read<I: Index>(
     addresses: &mut Addresses<'_>,
     draft: &mut Draft,
     index: &mut IndexCache<I>,
-) -> CargoResult<()>
+) -> Result<(), PlanFailure>
     requires document { IfSome (option_copied document) (λ d. d.bytes ≡ job.input.now.bytes.items) }
     requires addresses { AreAddresses addresses.old.configs.now addresses.old }
     requires preserved { AreAllCached (holds_pair draft.old.books.pairs) (cached_by index.old) }
@@ -187,13 +188,13 @@ pub(crate) fn add_read<I: Index>(
         → IsUtf8 job.entry.input.now.bytes.items) }
     ensures left { LeavesCache (IsNeededBy addresses.old.configs.now job.entry.input.now.bytes.items)
         (cache_view I.view index.old) (cache_view I.view index.new) }
-    ensures given { IfErr result (λ e. IsSome (option_copied document.entry) → IsMemory e
-        ⊎ StopsManifest addresses.old.configs.now job.entry.input.now.bytes.items
-        (cache_view I.view index.old) (cache_view I.view index.new) e) }
-    ensures read { IfErr result (λ e. option_copied document.entry ≡ None
-        → IsBadManifest job.entry.input.now.bytes.items e
-        ⊎ StopsManifest addresses.old.configs.now job.entry.input.now.bytes.items
-        (cache_view I.view index.old) (cache_view I.view index.new) e) }
+    ensures given { IfErr result (λ f. IsSome (option_copied document.entry) → IsMemory f.error
+        ⊎ FailsAtEntry job.entry.number addresses.old.configs.now job.entry.input.now.bytes.items
+        (cache_view I.view index.old) (cache_view I.view index.new) f) }
+    ensures read { IfErr result (λ f. option_copied document.entry ≡ None
+        → FailsAtBytes job.entry.number job.entry.input.now.bytes.items f
+        ⊎ FailsAtEntry job.entry.number addresses.old.configs.now job.entry.input.now.bytes.items
+        (cache_view I.view index.old) (cache_view I.view index.new) f) }
 {
     match document {
         Some(document) => {
@@ -201,7 +202,10 @@ pub(crate) fn add_read<I: Index>(
             Ok(())
         }
         None => {
-            let manifest = Manifest::read_bytes(alloc, &job.input.bytes)?;
+            let manifest = match Manifest::read_bytes(alloc, &job.input.bytes) {
+                Ok(manifest) => manifest,
+                Err(error) => return Err(at_input(error, job.number)),
+            };
             let document = &manifest.document;
             add_input(alloc, job, document, addresses, draft, index)?;
             Ok(())

@@ -7,6 +7,7 @@ mod config_lists;
 pub mod decision;
 mod draft;
 mod entries_with_rows;
+mod failure;
 mod lists;
 mod lookup_log;
 mod missing;
@@ -23,6 +24,7 @@ mod walk;
 mod writes;
 
 pub use decision::Options;
+pub use failure::{Origin, PlanFailure};
 pub use plan::{plan_documents, plan_shared, plan_upgrade};
 pub use revision::{revised_plan, row_addresses};
 pub use upgrade::{Look, UpgradePlan, Warning};

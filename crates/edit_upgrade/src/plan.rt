@@ -6,6 +6,7 @@ ghost use Rattle.edit_cache.specs.IndexCache.{index_of};
 ghost use Rattle.edit_upgrade.specs.Caches.{LeavesCache, StopsDocuments, StopsInputs, cache_view};
 ghost use Rattle.edit_upgrade.specs.ConfigLists.{AreIndices, HasLists, chosen_lists, lists_in};
 ghost use Rattle.edit_upgrade.specs.Drafts.{AreGiven, IsDraft};
+ghost use Rattle.edit_upgrade.specs.Failures.{FailsOnDocuments, FailsOnInputs, IsPlanFailure};
 ghost use Rattle.edit_upgrade.specs.Headline.{IsSettled, KeepsLevel, LatestIsNotLess, Narrows, NeedsAsBefore, NeverLowers, Reaches};
 ghost use Rattle.edit_metadata.specs.Inputs.{HaveOwnPaths};
 ghost use Rattle.edit_upgrade.specs.Inputs.{EachInput, OutputsInOrder, RowsInOrder, WarningsInOrder};
@@ -21,6 +22,7 @@ use crate::address_caches::{AddressCaches, keep_addresses, take_addresses};
 use crate::config_lists::{ConfigLists, list_index};
 use crate::decision::options::Options;
 use crate::draft::{Draft, add_read, finish_plan};
+use crate::failure::PlanFailure;
 use crate::missing::unknown_names;
 use crate::package_selection::parse_selection;
 use crate::parsed_options::ParsedOptions;
@@ -49,7 +51,7 @@ fn plan_each_input<I: Index>(
     documents: &[Document],
     configs: ConfigLists<'_>,
     index: &mut IndexCache<I>,
-) -> CargoResult<Draft>
+) -> Result<Draft, PlanFailure>
     requires documents { AreGiven inputs.now documents.now }
     requires configurations { length (lists_in configs) ≡ length inputs.now }
     requires lists { HasLists configs }
@@ -61,12 +63,12 @@ fn plan_each_input<I: Index>(
     ensures utf8 { OnOk result (documents.now ≡ [] → All (λ x. IsUtf8 x.bytes.items) inputs.now) }
     ensures left { LeavesCache (IsNeeded inputs.now (lists_in configs.entry))
         (cache_view I.view index.old) (cache_view I.view index.new) }
-    ensures given { IfErr result (λ e. length documents.now ≡ length inputs.now
-        → StopsDocuments inputs.now (lists_in configs.entry)
-        (cache_view I.view index.old) (cache_view I.view index.new) e) }
-    ensures read { IfErr result (λ e. documents.now ≡ []
-        → StopsInputs inputs.now (lists_in configs.entry)
-        (cache_view I.view index.old) (cache_view I.view index.new) e) }
+    ensures given { IfErr result (λ f. length documents.now ≡ length inputs.now
+        → FailsOnDocuments inputs.now (lists_in configs.entry)
+        (cache_view I.view index.old) (cache_view I.view index.new) f) }
+    ensures read { IfErr result (λ f. documents.now ≡ []
+        → FailsOnInputs inputs.now (lists_in configs.entry)
+        (cache_view I.view index.old) (cache_view I.view index.new) f) }
 {
     let mut draft = Draft::new(alloc);
     let mut caches = AddressCaches::new(alloc);
@@ -94,7 +96,7 @@ fn plan_all<I: Index>(
     documents: &[Document],
     configs: ConfigLists<'_>,
     index: &mut IndexCache<I>,
-) -> CargoResult<UpgradePlan>
+) -> Result<UpgradePlan, PlanFailure>
     requires documents { AreGiven inputs.now documents.now }
     requires configurations { length (lists_in configs) ≡ length inputs.now }
     requires lists { HasLists configs }
@@ -104,12 +106,12 @@ fn plan_all<I: Index>(
     ensures utf8 { OnOk result (documents.now ≡ [] → All (λ x. IsUtf8 x.bytes.items) inputs.now) }
     ensures left { LeavesCache (IsNeeded inputs.now (lists_in configs.entry))
         (cache_view I.view index.old) (cache_view I.view index.new) }
-    ensures given { IfErr result (λ e. length documents.now ≡ length inputs.now
-        → IsPlanError options.now (StopsDocuments inputs.now (lists_in configs.entry)
-        (cache_view I.view index.old) (cache_view I.view index.new)) e) }
-    ensures read { IfErr result (λ e. documents.now ≡ []
-        → IsPlanError options.now (StopsInputs inputs.now (lists_in configs.entry)
-        (cache_view I.view index.old) (cache_view I.view index.new)) e) }
+    ensures given { IfErr result (λ f. length documents.now ≡ length inputs.now
+        → IsPlanFailure options.now (FailsOnDocuments inputs.now (lists_in configs.entry)
+        (cache_view I.view index.old) (cache_view I.view index.new)) f) }
+    ensures read { IfErr result (λ f. documents.now ≡ []
+        → IsPlanFailure options.now (FailsOnInputs inputs.now (lists_in configs.entry)
+        (cache_view I.view index.old) (cache_view I.view index.new)) f) }
 {
     let picks = parse_selection(alloc, options)?;
     let parsed = ParsedOptions {
@@ -149,7 +151,8 @@ pub fn plan_documents<I: Index>(
         lists: configs,
         which: None,
     };
-    plan_all(alloc, options, inputs, documents, configs, index)
+    let plan = plan_all(alloc, options, inputs, documents, configs, index)?;
+    Ok(plan)
 }
 
 /// Plans the upgrade of manifests whose lists of configurations are shared: like `plan_upgrade` where
@@ -162,7 +165,7 @@ pub fn plan_shared<I: Index>(
     lists: &[Vec<Config>],
     which: &[usize],
     index: &mut IndexCache<I>,
-) -> CargoResult<UpgradePlan>
+) -> Result<UpgradePlan, PlanFailure>
     requires documents { AreGiven inputs.now documents.now }
     requires configurations { length which.now ≡ length inputs.now }
     requires lists { AreIndices lists.now which.now }
@@ -175,13 +178,14 @@ pub fn plan_shared<I: Index>(
     // also on an error the cache gains only answers that the plan needs, as the index gives them
     ensures left { LeavesCache (IsNeeded inputs.now (chosen_lists lists.now which.now))
         (cache_view I.view index.old) (cache_view I.view index.new) }
-    // the first error: that of the options, else that of the first entry of the first input that has one
-    ensures given { IfErr result (λ e. length documents.now ≡ length inputs.now
-        → IsPlanError options.now (StopsDocuments inputs.now (chosen_lists lists.now which.now)
-        (cache_view I.view index.old) (cache_view I.view index.new)) e) }
-    ensures read { IfErr result (λ e. documents.now ≡ []
-        → IsPlanError options.now (StopsInputs inputs.now (chosen_lists lists.now which.now)
-        (cache_view I.view index.old) (cache_view I.view index.new)) e) }
+    // the first error: of the options, else of the first entry of the first input that has one; the failure
+    // names this input or entry
+    ensures given { IfErr result (λ f. length documents.now ≡ length inputs.now
+        → IsPlanFailure options.now (FailsOnDocuments inputs.now (chosen_lists lists.now which.now)
+        (cache_view I.view index.old) (cache_view I.view index.new)) f) }
+    ensures read { IfErr result (λ f. documents.now ≡ []
+        → IsPlanFailure options.now (FailsOnInputs inputs.now (chosen_lists lists.now which.now)
+        (cache_view I.view index.old) (cache_view I.view index.new)) f) }
 {
     let shared = ConfigLists {
         lists,
@@ -255,5 +259,6 @@ pub fn plan_upgrade<I: Index>(
         lists: configs,
         which: None,
     };
-    plan_all(alloc, options, inputs, &documents, configs, index)
+    let plan = plan_all(alloc, options, inputs, &documents, configs, index)?;
+    Ok(plan)
 }

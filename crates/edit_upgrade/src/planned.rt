@@ -4,7 +4,8 @@ ghost use Rattle.std.specs.BTreeSet.{contains_text};
 ghost use Rattle.edit_base.specs.Errors.{IsMemory};
 ghost use Rattle.edit_cache.specs.IndexCache.{index_of};
 ghost use Rattle.edit_upgrade.specs.Addresses.{AreAddresses};
-ghost use Rattle.edit_upgrade.specs.Caches.{LeavesCache, StopsManifest, cache_view};
+ghost use Rattle.edit_upgrade.specs.Caches.{LeavesCache, cache_view};
+ghost use Rattle.edit_upgrade.specs.Failures.{FailsAtEntry};
 ghost use Rattle.edit_upgrade.specs.Lines.{line_of};
 ghost use Rattle.edit_upgrade.specs.Lists.{warning_view};
 ghost use Rattle.edit_upgrade.specs.LookupSteps.{AreAllCached};
@@ -16,13 +17,13 @@ ghost use Rattle.edit_upgrade.specs.Upgraded.{HasWarnings, IsNeededBy};
 
 use crate::addresses::Addresses;
 use crate::entries_with_rows::{Entry, with_rows};
+use crate::failure::PlanFailure;
 use crate::lists::warnings_on;
 use crate::missing::add_names;
 use crate::names::Names;
 use crate::rows::Job;
 use crate::upgrade::Warning;
 use crate::walk::{LookupLog, walk};
-use edit_base::CargoResult;
 use edit_cache::cache::IndexCache;
 use edit_document::Document;
 use edit_manifest::entries::entries;
@@ -47,7 +48,7 @@ pub(crate) fn plan_input<I: Index>(
     known: &mut Names,
     books: &mut LookupLog,
     index: &mut IndexCache<I>,
-) -> CargoResult<Planned>
+) -> Result<Planned, PlanFailure>
     requires document { document.now.bytes ≡ job.input.now.bytes.items }
     requires addresses { AreAddresses addresses.old.configs.now addresses.old }
     requires preserved { AreAllCached (holds_pair books.old.pairs) (cached_by index.old) }
@@ -65,9 +66,9 @@ pub(crate) fn plan_input<I: Index>(
         (contains_text known.old) (contains_text known.new)) }
     ensures left { LeavesCache (IsNeededBy addresses.old.configs.now job.entry.input.now.bytes.items)
         (cache_view I.view index.old) (cache_view I.view index.new) }
-    ensures error { IfErr result (λ e. IsMemory e
-        ⊎ StopsManifest addresses.old.configs.now job.entry.input.now.bytes.items
-        (cache_view I.view index.old) (cache_view I.view index.new) e) }
+    ensures error { IfErr result (λ f. IsMemory f.error
+        ⊎ FailsAtEntry job.entry.number addresses.old.configs.now job.entry.input.now.bytes.items
+        (cache_view I.view index.old) (cache_view I.view index.new) f) }
 {
     document.lemma_form();
     // the base folder is empty since no row shows the folder of a path dependency

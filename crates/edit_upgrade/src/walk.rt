@@ -7,7 +7,8 @@ ghost use Rattle.edit_cache.specs.IndexCache.{index_of};
 ghost use Rattle.url.specs.Parts.{serialize};
 ghost use Rattle.edit_upgrade.specs.Addresses.{AreAddresses};
 ghost use Rattle.edit_upgrade.specs.Caches.{LeavesCache, cache_view};
-ghost use Rattle.edit_upgrade.specs.Causes.{IsPassed, StopsAt, StopsFirst};
+ghost use Rattle.edit_upgrade.specs.Causes.{IsPassed, StopsAt};
+ghost use Rattle.edit_upgrade.specs.Failures.{FailsAt};
 ghost use Rattle.edit_upgrade.specs.Found.{row_entry_view};
 ghost use Rattle.edit_upgrade.specs.Lines.{line_of};
 ghost use Rattle.edit_upgrade.specs.LookupSteps.{AreAllCached, AreSteps, IsEntryStep};
@@ -19,6 +20,7 @@ ghost use Rattle.edit_upgrade.specs.Upgraded.{IsNeededFor, IsNeededIn};
 
 use crate::addresses::Addresses;
 use crate::entries_with_rows::{Entry, Source};
+use crate::failure::{PlanFailure, at_entry};
 use crate::lookup_log::{PairSet, lookup_once};
 use crate::rows::{Job, cached_row, row_for};
 use crate::upgrade::Look;
@@ -126,7 +128,7 @@ pub(crate) fn walk<I: Index>(
     addresses: &mut Addresses<'_>,
     books: &mut LookupLog,
     index: &mut IndexCache<I>,
-) -> CargoResult<Vec<Row>>
+) -> Result<Vec<Row>, PlanFailure>
     requires addresses { AreAddresses addresses.old.configs.now addresses.old }
     requires preserved { AreAllCached (holds_pair books.old.pairs) (cached_by index.old) }
     ensures addresses { OnOk result (AreAddresses addresses.old.configs.now addresses.new) }
@@ -142,15 +144,17 @@ pub(crate) fn walk<I: Index>(
         (map row_entry_view entries.now) (map line_of v.items)) }
     ensures left { LeavesCache (IsNeededIn addresses.old.configs.now (map row_entry_view entries.now))
         (cache_view I.view index.old) (cache_view I.view index.new) }
-    ensures error { IfErr result (λ e. IsMemory e
-        ⊎ StopsFirst addresses.old.configs.now (I.view (index_of index.old)).gives
-        (cached_by index.old) (cached_by index.new)
-        (I.view (index_of index.old)).faults (I.view (index_of index.new)).faults
-        (map row_entry_view entries.now) e) }
+    // the error of the first entry that has one, and that entry
+    ensures error { IfErr result (λ f. IsMemory f.error
+        ⊎ FailsAt job.entry.number addresses.old.configs.now
+        (cache_view I.view index.old) (cache_view I.view index.new) (map row_entry_view entries.now) f) }
 {
     let mut rows = Vec::with_capacity(alloc, entries.len())?;
     'entries: for entry in entries {
-        let row = entry_row(alloc, job, entry, addresses, books, index)?;
+        let row = match entry_row(alloc, job, entry, addresses, books, index) {
+            Ok(row) => row,
+            Err(error) => return Err(at_entry(alloc, error, job.number, entry)),
+        };
         rows.push(row)?;
     }
     Ok(rows)

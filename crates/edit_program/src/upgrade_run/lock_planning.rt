@@ -1,22 +1,20 @@
 //! The plan of an upgrade, for the steps that bring the lock file up to it.
-ghost use Rattle.std.specs.Prelude.{◌≡◌, ◌⊎◌, IfErr, IfOk, true};
+ghost use Rattle.std.specs.Prelude.{◌≡◌, IfErr, IfOk, true};
 ghost use Rattle.edit_sources.specs.Configured.{given};
 ghost use Rattle.edit_store.specs.Store.{OnlyReads};
 ghost use Rattle.edit_program.specs.Counted.{CountsEitherFault};
-ghost use Rattle.edit_program.specs.LockPlans.{IsLockPlan, prints_nothing};
+ghost use Rattle.edit_program.specs.LockPlans.{IsLockPlan};
+ghost use Rattle.edit_program.specs.PlannedUpgrades.{prints_nothing};
 ghost use Rattle.edit_program.specs.Run.{run_at};
 ghost use Rattle.edit_program.specs.UpgradeCauses.{IsUpgradeCause};
 
 use crate::run_folders::RunFolders;
-use crate::upgrade_run::following::{Readings, read};
-use crate::upgrade_run::plan::{index_restriction, plan_for};
-use crate::upgrade_run::revising::{RevisedPlan, revise};
+use crate::upgrade_run::planning::{PlannedUpgrade, read_and_plan};
+use crate::upgrade_run::revising::RevisedPlan;
 use crate::upgrade_run::upgrade_args::UpgradeArgs;
-use edit_diagnostics::explain_upgrade;
 use edit_policy::CratePolicy;
 use edit_sources::PublishedBefore;
 use edit_steps::RunResult;
-use edit_steps::upgrade_read::Sources;
 use edit_store::Store;
 use edit_upgrade::{Options, UpgradePlan};
 use std::alloc::Global;
@@ -53,44 +51,18 @@ pub fn plan_lock<S: Store, T: Store + Drop>(
     ensures counted { IfErr result (λ r. CountsEitherFault T.view index_files
         (S.view files.old) (S.view files.new) r.error) }
 {
-    let current = place.current;
-    let readings = read(alloc, args, current, place.cargo_home, files)?;
-    let Readings {
-        sources,
-        lock,
+    let planned = read_and_plan(alloc, args, place, files, index_files)?;
+    let PlannedUpgrade {
         policy,
-        args: merged,
-    } = readings;
-    let Sources {
-        target,
-        configs,
-        index,
-    } = sources;
-    let lock = lock.as_ref();
-    let crates = policy.crates.as_slice();
-    let restriction = index_restriction(merged.to_lockfile, lock, crates);
-    let plan = match plan_for(
-        alloc,
-        &merged,
-        &target,
-        &configs,
-        restriction,
-        index,
-        index_files,
-    ) {
-        Ok(plan) => plan,
-        Err(error) => {
-            let request = merged.to_request();
-            let inputs = &target.inputs;
-            return Err(explain_upgrade(alloc, error, &request, current, inputs, &configs, files));
-        }
-    };
-    let revised = revise(alloc, &merged, &target, &configs, plan)?;
+        args,
+        revised,
+        ..
+    } = planned;
     let RevisedPlan { plan, .. } = revised;
     Ok(LockPlan {
         plan,
-        options: merged.options,
-        published_before: merged.published_before,
+        options: args.options,
+        published_before: args.published_before,
         crates: policy.crates,
     })
 }

@@ -16,14 +16,13 @@ ghost use Rattle.edit_program.specs.Planned.{IsPlanCause};
 use crate::lookup_lines::{NoIndex, lookup_lines_text};
 use crate::upgrade_run::plan::plan_over;
 use crate::upgrade_run::upgrade_args::UpgradeArgs;
-use edit_base::CargoResult;
 use edit_diagnostics::explain_upgrade;
 use edit_report::shell_write_stdout;
 use edit_restricted_index::Restriction;
 use edit_steps::RunResult;
 use edit_steps::upgrade_read::{SharedConfigs, Sources, Target, read_sources};
 use edit_store::Store;
-use edit_upgrade::Options;
+use edit_upgrade::{Options, PlanFailure};
 use std::alloc::Global;
 use std::io;
 
@@ -33,16 +32,16 @@ fn lines_for(
     options: &Options,
     target: &Target,
     configs: &SharedConfigs,
-) -> CargoResult<String>
+) -> Result<String, PlanFailure>
     requires paths { HaveOwnPaths target.now.inputs.items }
     requires each { length configs.now.which.items ≡ length target.now.inputs.items }
     requires lists { HasLists configs.now }
     requires documents { AreDocuments target.now.documents.items target.now.inputs.items }
     ensures lines { IfOk result (λ text. AreLinesOf options.now target.now.inputs.items
         (lists_for configs.now) (string_bytes text)) }
-    ensures error { IfErr result (λ e. IsMemory e
-        ⊎ IsPlanCause options.now target.now.inputs.items (lists_for configs.now) no_view e) }
-    ensures counted { IfErr result (λ e. number_of e ≢ 3) }
+    ensures error { IfErr result (λ f. IsMemory f.error
+        ⊎ IsPlanCause options.now target.now.inputs.items (lists_for configs.now) no_view f.error) }
+    ensures counted { IfErr result (λ f. number_of f.error ≢ 3) }
 {
     let plan = plan_over(
         alloc,
@@ -52,7 +51,8 @@ fn lines_for(
         Restriction::none(),
         NoIndex {},
     )?;
-    lookup_lines_text(alloc, &plan.looks)
+    let text = lookup_lines_text(alloc, &plan.looks)?;
+    Ok(text)
 }
 
 /// Prints a line for each lookup that an upgrade with these arguments needs, in the order of its plan: the
@@ -84,10 +84,10 @@ pub fn print_lookups<S: Store, O: io::Write>(
     } = sources;
     let lines = match lines_for(alloc, &args.options, &target, &configs) {
         Ok(lines) => lines,
-        Err(error) => {
+        Err(failure) => {
             let request = args.to_lookup_request();
             let inputs = &target.inputs;
-            return Err(explain_upgrade(alloc, error, &request, current, inputs, &configs, files));
+            return Err(explain_upgrade(alloc, failure, &request, current, inputs, &configs, files));
         }
     };
     shell_write_stdout(out, lines.as_str())?;

@@ -13,7 +13,6 @@ ghost use Rattle.edit_program.specs.Counted.{CountsIndexFault, CountsStoreFault}
 ghost use Rattle.edit_program.specs.Planned.{IsPlanCause, IsPlanned, index_view, restriction};
 
 use crate::upgrade_run::upgrade_args::UpgradeArgs;
-use edit_base::CargoResult;
 use edit_cache::IndexCache;
 use edit_lock::{Lock, LockedPackage};
 use edit_policy::CratePolicy;
@@ -22,7 +21,7 @@ use edit_sources::index_dir::DirIndex;
 use edit_sources::{Index, LocalIndex};
 use edit_steps::upgrade_read::{IndexSource, SharedConfigs, Target};
 use edit_store::Store;
-use edit_upgrade::{Options, UpgradePlan, plan_shared};
+use edit_upgrade::{Options, PlanFailure, UpgradePlan, plan_shared};
 use std::alloc::Global;
 
 /// The packages of a lock file; none without one.
@@ -73,7 +72,7 @@ pub(crate) fn plan_over<I: Index + Drop>(
     configs: &SharedConfigs,
     restriction: Restriction<'_>,
     index: I,
-) -> CargoResult<UpgradePlan>
+) -> Result<UpgradePlan, PlanFailure>
     requires paths { HaveOwnPaths target.now.inputs.items }
     requires each { length configs.now.which.items ≡ length target.now.inputs.items }
     requires lists { HasLists configs.now }
@@ -82,10 +81,10 @@ pub(crate) fn plan_over<I: Index + Drop>(
         (restricted_view (test_of restriction.entry) (I.view index))) }
     // without documents the bytes of the manifests were read as text
     ensures utf8 { OnOk result (AreUtf8 target.now.inputs.items target.now.documents.items) }
-    ensures error { IfErr result (λ e. IsMemory e
+    ensures error { IfErr result (λ f. IsMemory f.error
         ⊎ IsPlanCause options.now target.now.inputs.items (lists_for configs.now)
-        (restricted_view (test_of restriction.entry) (I.view index)) e) }
-    ensures counted { IfErr result (CountsIndexFault I.view index) }
+        (restricted_view (test_of restriction.entry) (I.view index)) f.error) }
+    ensures counted { IfErr result (λ f. CountsIndexFault I.view index f.error) }
 {
     let index = RestrictedIndex::new(alloc, index, restriction)?;
     let mut cache = IndexCache::new(alloc, index);
@@ -109,7 +108,7 @@ pub(crate) fn plan_for<T: Store + Drop>(
     restriction: Restriction<'_>,
     index: IndexSource,
     index_files: T,
-) -> CargoResult<UpgradePlan>
+) -> Result<UpgradePlan, PlanFailure>
     requires paths { HaveOwnPaths target.now.inputs.items }
     requires each { length configs.now.which.items ≡ length target.now.inputs.items }
     requires lists { HasLists configs.now }
@@ -119,11 +118,11 @@ pub(crate) fn plan_for<T: Store + Drop>(
         (index_view args.now.published_before index (T.view index_files)))) }
     // without documents the bytes of the manifests were read as text
     ensures utf8 { OnOk result (AreUtf8 target.now.inputs.items target.now.documents.items) }
-    ensures error { IfErr result (λ e. IsMemory e
+    ensures error { IfErr result (λ f. IsMemory f.error
         ⊎ IsPlanCause args.now.options target.now.inputs.items (lists_for configs.now)
         (restricted_view (test_of restriction.entry)
-        (index_view args.now.published_before index (T.view index_files))) e) }
-    ensures counted { IfErr result (CountsStoreFault T.view index_files) }
+        (index_view args.now.published_before index (T.view index_files))) f.error) }
+    ensures counted { IfErr result (λ f. CountsStoreFault T.view index_files f.error) }
 {
     let options = &args.options;
     let bound = args.published_before;

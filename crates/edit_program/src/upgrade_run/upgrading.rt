@@ -11,13 +11,10 @@ ghost use Rattle.edit_program.specs.Upgrading.{IsBroken, IsUpgraded};
 use crate::run_folders::RunFolders;
 use crate::upgrade_output::deliver;
 use crate::upgrade_run::delivering::{delivery_task, has_outputs, path_of};
-use crate::upgrade_run::following::{Readings, read};
-use crate::upgrade_run::plan::{index_restriction, plan_for};
-use crate::upgrade_run::revising::revise;
+use crate::upgrade_run::planning::{PlannedUpgrade, read_and_plan};
 use crate::upgrade_run::upgrade_args::UpgradeArgs;
-use edit_diagnostics::{explain_delivery, explain_upgrade};
+use edit_diagnostics::explain_delivery;
 use edit_steps::RunResult;
-use edit_steps::upgrade_read::Sources;
 use edit_store::Store;
 use std::alloc::Global;
 use std::io;
@@ -56,40 +53,18 @@ pub fn upgrade<S: Store, T: Store + Drop, O: io::Write, E: io::Write>(
 {
     let current = place.current;
     let named = path_of(alloc, current, args.update_calls)?;
-    let readings = read(alloc, args, current, place.cargo_home, files)?;
-    let Readings {
-        sources,
+    let planned = read_and_plan(alloc, args, place, files, index_files)?;
+    let PlannedUpgrade {
+        target,
         lock,
         policy,
-        args: merged,
-    } = readings;
-    let Sources {
-        target,
-        configs,
-        index,
-    } = sources;
+        args,
+        revised,
+    } = planned;
     let lock = lock.as_ref();
     let crates = policy.crates.as_slice();
-    let restriction = index_restriction(merged.to_lockfile, lock, crates);
-    let plan = match plan_for(
-        alloc,
-        &merged,
-        &target,
-        &configs,
-        restriction,
-        index,
-        index_files,
-    ) {
-        Ok(plan) => plan,
-        Err(error) => {
-            let request = merged.to_request();
-            let inputs = &target.inputs;
-            return Err(explain_upgrade(alloc, error, &request, current, inputs, &configs, files));
-        }
-    };
-    let revised = revise(alloc, &merged, &target, &configs, plan)?;
     let path = named.as_deref();
-    let task = delivery_task(&merged, current, &target, &revised, crates, path, lock);
+    let task = delivery_task(&args, current, &target, &revised, crates, path, lock);
     match deliver(alloc, &task, files, out, err) {
         Ok(()) => Ok(has_outputs(&revised.plan)),
         Err(error) => Err(explain_delivery(alloc, error, &revised.plan)),

@@ -2,11 +2,12 @@
 ghost use Rattle.std.specs.Prelude.{◌≡◌, string_bytes};
 
 use crate::assertion_helpers::{check_result, push, text, unwrap_alloc, unwrap_ok};
-use cargo_edit::upgrade::{Options, UpgradePlan, plan_shared, plan_upgrade};
+use cargo_edit::upgrade::{Options, Origin, PlanFailure, UpgradePlan, plan_shared, plan_upgrade};
 use cargo_edit::workspace::Input;
 use edit_cache::IndexCache;
+use edit_document::Step;
 use edit_sources::{Config, FileIndex};
-use std::alloc::Global;
+use std::alloc::{AllocError, Global};
 use std::process::Abort;
 
 /// The lines of an index with two crates.
@@ -116,10 +117,10 @@ fn addresses(rt: &impl Abort, alloc: Global, index: &mut IndexCache<FileIndex>) 
     ];
     let options = default_options(alloc);
     let which = [1, 0];
-    let plan = unwrap_ok(
-        rt,
-        plan_shared(alloc, &options, &inputs, &[], &lists, &which, index),
-    );
+    let plan = match plan_shared(alloc, &options, &inputs, &[], &lists, &which, index) {
+        Ok(plan) => plan,
+        Err(failure) => unwrap_ok(rt, Err(failure.error)),
+    };
     let mut all = String::new(alloc);
     for lookup in &plan.looks {
         unwrap_alloc(rt, write!(all, "{} ", lookup.registry.as_str()));
@@ -138,5 +139,60 @@ fn lists_that_two_manifests_choose(rt: HostRuntime) {
         "two lists",
         seen.as_str(),
         "https://two.example/ https://one.example/ ",
+    );
+}
+
+/// What the plan of a sound manifest and this one names as the origin of its failure: the index of the input,
+/// and the last key of the entry's place.
+fn origin(
+    rt: &impl Abort,
+    alloc: Global,
+    index: &mut IndexCache<FileIndex>,
+    second: &[u8],
+) -> String {
+    let inputs = [
+        input_at(
+            rt,
+            alloc,
+            "/w/a/Cargo.toml",
+            b"[dependencies]\nx = \"1.0\"\n",
+        ),
+        input_at(rt, alloc, "/w/b/Cargo.toml", second),
+    ];
+    let options = default_options(alloc);
+    let lists = [Vec::new(alloc)];
+    let which = [0, 0];
+    match plan_shared(alloc, &options, &inputs, &[], &lists, &which, index) {
+        Ok(_plan) => text(rt, alloc, "a plan"),
+        Err(failure) => unwrap_alloc(rt, origin_text(alloc, &failure)),
+    }
+}
+
+/// The origin of a failure as a text.
+fn origin_text(alloc: Global, failure: &PlanFailure) -> Result<String, AllocError> {
+    match &failure.origin {
+        Some(Origin::Input(input)) => format!(in alloc; "input {input}"),
+        Some(Origin::Entry { input, place }) => match place.last() {
+            Some(Step::Key(name)) => format!(in alloc; "input {input}, {name}"),
+            Some(Step::Index(_)) | None => format!(in alloc; "input {input}, no key"),
+        },
+        None => String::from_str(alloc, "none"),
+    }
+}
+
+#[test]
+fn origins_of_failures(rt: HostRuntime) {
+    let alloc = rt.alloc();
+    let lines = unwrap_ok(&rt, FileIndex::read(alloc, INDEX.as_bytes()));
+    let mut index = IndexCache::new(alloc, lines);
+    let bad = origin(&rt, alloc, &mut index, b"[dependencies\n");
+    check_result(&rt, "no TOML", bad.as_str(), "input 1");
+    let unknown = b"[dependencies]\ny = \"1.2\"\nx = { version = \"1.0\", registry = \"r\" }\n";
+    let unknown = origin(&rt, alloc, &mut index, unknown);
+    check_result(
+        &rt,
+        "a registry that is not defined",
+        unknown.as_str(),
+        "input 1, x",
     );
 }

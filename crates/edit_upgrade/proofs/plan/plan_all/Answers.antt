@@ -1,15 +1,17 @@
-use Rattle.std.proofs.Common.{◌∙◌, List, ap, inl, inr, map}
+use Rattle.std.proofs.Common.{◌∙◌, List, ap, inl, inr, map, subst, sym}
 use Rattle.std.specs.Prelude.{String, filter, not, string_bytes}
 use Rattle.std.specs.BTreeSet.{contains_text}
 use Rattle.std.specs.Global.{Vec}
 use Rattle.std.specs.declared.alloc.Global.{Global}
+use Rattle.edit_base.specs.Errors.{IsMemory}
 use Rattle.edit_upgrade.specs.Caches.{cache_view}
 use Rattle.edit_upgrade.specs.ConfigLists.{lists_in}
 use Rattle.edit_upgrade.specs.EntrySelection.{package_args_of}
-use Rattle.edit_upgrade.proofs.CauseLemmas.{finish-refused, rows-some}
+use Rattle.edit_upgrade.specs.OptionCauses.{IsOptionCause}
+use Rattle.edit_upgrade.proofs.CauseLemmas.{finish-fails, rows-some}
 use Rattle.edit_upgrade.proofs.DraftedInputs.{finish_plan-draft, plan-of}
 use Rattle.edit_upgrade.proofs.MissingLemmas.{missing-are}
-use Rattle.edit_upgrade.proofs.PlannedLemmas.{failure-has}
+use Rattle.edit_upgrade.proofs.PlannedLemmas.{failure-has, failure-of}
 use Rattle.edit_upgrade.proofs.OptionCauseLemmas.{memory-at}
 use Rattle.edit_upgrade.proofs.plan.plan_all.Goals as goal
 
@@ -34,21 +36,23 @@ returns-clause-plan g c =
 
 pub returns-in_err-plan-clause-given : goal.returns-in_err-plan-clause-given
 returns-in_err-plan-clause-given g c =
-    failure-has c.from_residual-in_err-plan.result c.in_err-plan.field-0.0 _
-    c.from_residual-in_err-plan.ensures.1
-    (λ given. inr (c.in_ok-picks.ensures.ok.args.each, inl c.in_err-plan.ensures.error.0))
+    failure-of c.from_residual-in_err-plan.result c.in_err-plan.field-0.0 _
+    c.from_residual-in_err-plan.ensures.1 (λ f is given. inr (
+      c.in_ok-picks.ensures.ok.args.each,
+      inl (subst IsMemory (sym is) c.in_err-plan.ensures.error.0),
+    ))
 
 pub returns-in_err-plan-clause-read : goal.returns-in_err-plan-clause-read
 returns-in_err-plan-clause-read g c =
-    failure-has c.from_residual-in_err-plan.result c.in_err-plan.field-0.0 _
+    failure-of c.from_residual-in_err-plan.result c.in_err-plan.field-0.0 _
     c.from_residual-in_err-plan.ensures.1
-    (λ none. inr (
+    (λ f is none. inr (
       c.in_ok-picks.ensures.ok.args.each,
-      finish-refused c.args.inputs.now (lists_in c.args.configs) (cache_view g.I.Index.view c.args.index.now)
-          (cache_view g.I.Index.view c.plan_each_input.new.index) c.in_err-plan.field-0.0
+      finish-fails c.args.inputs.now (lists_in c.args.configs) (cache_view g.I.Index.view c.args.index.now)
+          (cache_view g.I.Index.view c.plan_each_input.new.index) f
           c.in_ok-draft.ensures.inputs.planned c.requires.configurations
           (rows-some c.in_ok-draft.draft.rows.items c.in_err-plan.ensures.error.1)
-          (c.in_ok-draft.ensures.utf8 none) c.in_err-plan.ensures.error.0,
+          (c.in_ok-draft.ensures.utf8 none) (subst IsMemory (sym is) c.in_err-plan.ensures.error.0),
     ))
 
 pub returns-in_err-draft-clause-given : goal.returns-in_err-draft-clause-given
@@ -72,18 +76,18 @@ invariant_of-parsed g c = record {
 
 pub returns-in_err-picks-clause-given : goal.returns-in_err-picks-clause-given
 returns-in_err-picks-clause-given g c =
-    failure-has c.from_residual.result c.in_err-picks.field-0.0 _ c.from_residual.ensures.1
-    (λ given. inl c.in_err-picks.ensures.error)
+    failure-of c.from_residual.result c.in_err-picks.field-0.0 _ c.from_residual.ensures.1
+    (λ f is given. inl (subst (IsOptionCause c.args.options.now) (sym is) c.in_err-picks.ensures.error))
 
 pub returns-in_err-picks-clause-read : goal.returns-in_err-picks-clause-read
 returns-in_err-picks-clause-read g c =
-    failure-has c.from_residual.result c.in_err-picks.field-0.0 _ c.from_residual.ensures.1
-    (λ none. inl c.in_err-picks.ensures.error)
+    failure-of c.from_residual.result c.in_err-picks.field-0.0 _ c.from_residual.ensures.1
+    (λ f is none. inl (subst (IsOptionCause c.args.options.now) (sym is) c.in_err-picks.ensures.error))
 
 pub returns-in_err-missing-clause-read : goal.returns-in_err-missing-clause-read
 returns-in_err-missing-clause-read g c =
-    failure-has c.from_residual-in_err-missing.result c.in_err-missing.field-0.0 _
+    failure-of c.from_residual-in_err-missing.result c.in_err-missing.field-0.0 _
     c.from_residual-in_err-missing.ensures.1
-    (λ none. inl (inl (memory-at (package_args_of c.args.options.now) c.deref.result.now c.in_err-missing.field-0.0
+    (λ f is none. inl (inl (memory-at (package_args_of c.args.options.now) c.deref.result.now f.error
     (ap (map string_bytes) c.deref.ensures.value ∙ c.in_ok-picks.ensures.ok.args.names)
-    c.in_err-missing.ensures.error.1 c.in_err-missing.ensures.error.0)))
+    c.in_err-missing.ensures.error.1 (is ∙ c.in_err-missing.ensures.error.0))))

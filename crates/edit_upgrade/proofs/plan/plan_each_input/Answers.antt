@@ -4,6 +4,7 @@ use Rattle.std.specs.BTreeSet.{contains_text}
 use Rattle.std.specs.Global.{Vec}
 use Rattle.std.proofs.lemmas.List.{take_all}
 use Rattle.std.proofs.lemmas.List.Elements.{All-nil, All-push}
+use Rattle.edit_base.specs.Errors.{IsMemory}
 use Rattle.edit_tree.specs.DocumentViews.{DocumentViews}
 use Rattle.edit_metadata.specs.declared.input.Input.{Input}
 use Rattle.edit_cache.specs.IndexCache.{index_of}
@@ -15,12 +16,12 @@ use Rattle.edit_upgrade.specs.Missing.{AreKnown}
 use Rattle.edit_upgrade.specs.Caches.{cache_view}
 use Rattle.edit_upgrade.specs.Upgraded.{IsNeeded}
 use Rattle.edit_upgrade.proofs.AddressCaches.{input-addresses, input-list, none-cached, still-for}
-use Rattle.edit_upgrade.proofs.CauseLemmas.{given-refused, read-refused}
+use Rattle.edit_upgrade.proofs.CauseLemmas.{given-fails, read-fails}
 use Rattle.edit_upgrade.proofs.EndLemmas.{get-past}
 use Rattle.edit_upgrade.proofs.FurtherInputs.{draft-next, draft-start, given-at, left-next}
 use Rattle.edit_upgrade.proofs.LookUpLemmas.{leaves-same}
 use Rattle.edit_upgrade.proofs.MissingLemmas.{known-next, known-start}
-use Rattle.edit_upgrade.proofs.PlannedLemmas.{failure-has}
+use Rattle.edit_upgrade.proofs.PlannedLemmas.{failure-has, failure-of}
 use Rattle.edit_upgrade.proofs.Steps.{taken-more}
 use Rattle.edit_upgrade.proofs.plan.plan_each_input.Goals as goal
 
@@ -131,7 +132,7 @@ returns-in_err-add_read-clause-given g c =
     c.requires.configurations c.index-inputs-i.is c.list_index-list.ensures.within
     c.list_index-list.ensures.list c.take_addresses-addresses.ensures.addresses).1 in
     failure-has c.from_residual.result c.in_err-add_read.field-0.0 _ c.from_residual.ensures.1
-    (λ long. given-refused was now next c.in_err-add_read.field-0.0 at c.inputs.invariant.draft.planned
+    (λ long. given-fails was now next c.in_err-add_read.field-0.0 at c.inputs.invariant.draft.planned
     c.inputs.invariant.left c.in_err-add_read.ensures.left.adds.stays
     (c.in_err-add_read.ensures.given (get-past c.args.documents.now c.inputs.i _
     (omega (arith, c.inputs-test.true, long)) c.document_at-document.ensures)))
@@ -146,7 +147,7 @@ returns-in_err-add_read-clause-read g c =
     c.requires.configurations c.index-inputs-i.is c.list_index-list.ensures.within
     c.list_index-list.ensures.list c.take_addresses-addresses.ensures.addresses).1 in
     failure-has c.from_residual.result c.in_err-add_read.field-0.0 _ c.from_residual.ensures.1
-    (λ e. read-refused was now next c.in_err-add_read.field-0.0 at c.inputs.invariant.draft.planned
+    (λ e. read-fails was now next c.in_err-add_read.field-0.0 at c.inputs.invariant.draft.planned
     c.inputs.invariant.left c.in_err-add_read.ensures.left.adds.stays
     (c.in_err-add_read.ensures.read (c.document_at-document.ensures
     ∙ ap (λ (ds : List DocumentViews). slice_get ds c.inputs.i) e)))
@@ -171,11 +172,11 @@ returns-in_err-keep_addresses-clause-given g c =
     c.list_index-list.result c.index-inputs-i.result c.take_addresses-addresses.result c.inputs-test.true
     c.requires.configurations c.index-inputs-i.is c.list_index-list.ensures.within
     c.list_index-list.ensures.list c.take_addresses-addresses.ensures.addresses).1 in
-    failure-has c.from_residual-in_err-keep_addresses.result c.in_err-keep_addresses.field-0.0 _
+    failure-of c.from_residual-in_err-keep_addresses.result c.in_err-keep_addresses.field-0.0 _
     c.from_residual-in_err-keep_addresses.ensures.1
-    (λ long. given-refused was now next c.in_err-keep_addresses.field-0.0 at c.inputs.invariant.draft.planned
+    (λ f is long. given-fails was now next f at c.inputs.invariant.draft.planned
     c.inputs.invariant.left c.in_ok-add_read.ensures.left.adds.stays
-    (inl c.in_err-keep_addresses.ensures.error))
+    (inl (subst IsMemory (sym is) c.in_err-keep_addresses.ensures.error)))
 
 pub returns-in_err-keep_addresses-clause-read : goal.returns-in_err-keep_addresses-clause-read
 returns-in_err-keep_addresses-clause-read g c =
@@ -186,11 +187,12 @@ returns-in_err-keep_addresses-clause-read g c =
     c.list_index-list.result c.index-inputs-i.result c.take_addresses-addresses.result c.inputs-test.true
     c.requires.configurations c.index-inputs-i.is c.list_index-list.ensures.within
     c.list_index-list.ensures.list c.take_addresses-addresses.ensures.addresses).1 in
-    failure-has c.from_residual-in_err-keep_addresses.result c.in_err-keep_addresses.field-0.0 _
+    failure-of c.from_residual-in_err-keep_addresses.result c.in_err-keep_addresses.field-0.0 _
     c.from_residual-in_err-keep_addresses.ensures.1
-    (λ e.
+    (λ f is e.
+    let memory = subst IsMemory (sym is) c.in_err-keep_addresses.ensures.error in
     let utf8 = c.in_ok-add_read.ensures.utf8 (c.document_at-document.ensures
     ∙ ap (λ (ds : List DocumentViews). slice_get ds c.inputs.i) e) in
-    read-refused was now next c.in_err-keep_addresses.field-0.0 at c.inputs.invariant.draft.planned
+    read-fails was now next f at c.inputs.invariant.draft.planned
     c.inputs.invariant.left c.in_ok-add_read.ensures.left.adds.stays
-    (inl (inr (inr (c.in_err-keep_addresses.ensures.error, utf8)))))
+    (inl (inr (inr (memory, utf8)), inl memory)))

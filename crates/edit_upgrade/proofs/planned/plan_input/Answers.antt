@@ -5,6 +5,7 @@ use Rattle.std.specs.Prelude.{option_map}
 use Rattle.edit_version.specs.RustVersions.{numbers_of}
 use Rattle.edit_cache.specs.IndexCache.{index_of}
 use Rattle.edit_manifest.specs.EntryViews.{entry_view}
+use Rattle.edit_upgrade.specs.Caches.{cache_view}
 use Rattle.edit_upgrade.specs.Found.{row_entry_view}
 use Rattle.edit_upgrade.specs.Lines.{line_of}
 use Rattle.edit_upgrade.specs.Lists.{warning_view}
@@ -13,7 +14,7 @@ use Rattle.edit_upgrade.specs.PlannedView.{AreRowEntries}
 use Rattle.edit_upgrade.specs.Records.{with_row}
 use Rattle.edit_upgrade.specs.declared.planned.Planned.{Planned}
 use Rattle.edit_upgrade.specs.declared.entries_with_rows.Entry.{Entry}
-use Rattle.edit_upgrade.proofs.PlannedLemmas.{document-seen, planned-left, planned-names, planned-refused, planned-shown, planned-walked, planned-warnings, failure-has, rows-long}
+use Rattle.edit_upgrade.proofs.PlannedLemmas.{document-seen, planned-left, planned-names, planned-fails, planned-shown, planned-walked, planned-warnings, failure-has, rows-long}
 use Rattle.edit_upgrade.proofs.planned.plan_input.Goals as goal
 
 pub returns-clause-shown : goal.returns-clause-shown
@@ -97,8 +98,6 @@ returns-in_err-rows-clause-error g c =
     c.lemma_form.ensures.some c.lemma_form.ensures.shows
     (c.in_ok-entries.ensures.ok ∙ ap (filter_map with_row) c.in_ok-found.ensures.ok)) in
     failure-has c.from_residual-in_err-rows.result c.in_err-rows.field-0.0 _ c.from_residual-in_err-rows.ensures.1
-    (planned-refused c.args.addresses.now.configs.now c.args.job.input.now.bytes.items
-    (g.I.Index.view (index_of c.args.index.now)).gives
-    (cached_by c.args.index.now) (cached_by c.walk.new.index)
-    (g.I.Index.view (index_of c.args.index.now)).faults (g.I.Index.view (index_of c.walk.new.index)).faults
+    (planned-fails c.args.job.number c.args.addresses.now.configs.now c.args.job.input.now.bytes.items
+    (cache_view g.I.Index.view c.args.index.now) (cache_view g.I.Index.view c.walk.new.index)
     (map row_entry_view c.deref-3.result.now) c.in_err-rows.field-0.0 seen c.in_err-rows.ensures.error)

@@ -21,10 +21,9 @@ use Rattle.edit_upgrade.specs.Rows.{AreDecided, IsRowBy, Line}
 use Rattle.edit_upgrade.specs.Upgraded.{IsNeededFor, IsNeededIn}
 use Rattle.edit_upgrade.proofs.AddressLemmas.{own-addresses}
 use Rattle.edit_upgrade.proofs.LookUpLemmas.{leaves-more, leaves-same}
-use Rattle.edit_upgrade.proofs.PlannedLemmas.{failure-has}
 use Rattle.edit_upgrade.proofs.Steps.{names-more, names-split}
 use Rattle.edit_upgrade.proofs.StepLemmas.{entry-cached, entry-step-with}
-use Rattle.edit_upgrade.proofs.WalkLemmas.{contains-item, for-among, passed-stays, rows-further, walk-refused}
+use Rattle.edit_upgrade.proofs.WalkLemmas.{contains-item, for-among, passed-stays, rows-further, walk-fails}
 use Rattle.edit_upgrade.proofs.walk.walk.Goals as goal
 
 pub entries-init : goal.entries-init
@@ -57,8 +56,8 @@ returns-clause-passed g c =
     subst (λ (es : List Entry). All (IsPassed c.args.addresses.now.configs.now (cached_by c.entries.index))
     (map row_entry_view es)) whole c.entries.invariant.passed
 
-pub returns-in_err-row-clause-left : goal.returns-in_err-row-clause-left
-returns-in_err-row-clause-left g c =
+pub returns-in-Err-clause-left : goal.returns-in-Err-clause-left
+returns-in-Err-clause-left g c =
     let es = map row_entry_view c.args.entries.now in
     let e = row_entry_view c.entry-item.result in
     leaves-more (IsNeededIn c.args.addresses.now.configs.now es) (IsNeededFor c.args.addresses.now.configs.now e)
@@ -74,7 +73,7 @@ returns-in_err-row-clause-left g c =
     (g.I.Index.view (index_of c.entries.index)).gives (g.I.Index.view (index_of c.entry_row.new.index)).gives
     (g.I.Index.view (index_of c.entries.index)).faults (g.I.Index.view (index_of c.entry_row.new.index)).faults
     (cached_by c.entries.index) (cached_by c.entry_row.new.index)) c.entries.invariant.addresses.own
-    c.in_err-row.ensures.left)
+    c.in-Err.ensures.left)
 
 pub returns-in_err-push-clause-left : goal.returns-in_err-push-clause-left
 returns-in_err-push-clause-left g c =
@@ -93,30 +92,29 @@ returns-in_err-push-clause-left g c =
     (g.I.Index.view (index_of c.entries.index)).gives (g.I.Index.view (index_of c.entry_row.new.index)).gives
     (g.I.Index.view (index_of c.entries.index)).faults (g.I.Index.view (index_of c.entry_row.new.index)).faults
     (cached_by c.entries.index) (cached_by c.entry_row.new.index)) c.entries.invariant.addresses.own
-    c.in_ok-row.ensures.left)
+    c.in-Ok.ensures.left)
 
-pub returns-in_err-row-clause-error : goal.returns-in_err-row-clause-error
-returns-in_err-row-clause-error g c =
-    failure-has c.from_residual-in_err-row.result c.in_err-row.field-0.0 _
-    c.from_residual-in_err-row.ensures.1
-    (walk-refused c.args.addresses.now.configs.now (g.I.Index.view (index_of c.args.index.now)).gives
+pub returns-in-Err-clause-error : goal.returns-in-Err-clause-error
+returns-in-Err-clause-error g c =
+    walk-fails c.args.addresses.now.configs.now (g.I.Index.view (index_of c.args.index.now)).gives
     (g.I.Index.view (index_of c.entries.index)).gives
     (cached_by c.args.index.now) (cached_by c.entries.index) (cached_by c.entry_row.new.index)
     (g.I.Index.view (index_of c.args.index.now)).faults (g.I.Index.view (index_of c.entries.index)).faults
     (g.I.Index.view (index_of c.entry_row.new.index)).faults
     (map row_entry_view c.args.entries.now) (map row_entry_view (take c.entries.entry-index c.args.entries.now))
     (row_entry_view c.entry-item.result)
-    (map row_entry_view (drop (suc c.entries.entry-index) c.args.entries.now)) c.in_err-row.field-0.0
+    (map row_entry_view (drop (suc c.entries.entry-index) c.args.entries.now)) c.in-Err.error
+    c.args.job.number c.at_entry.result
     (names-split row_entry_view c.args.entries.now c.entries.entry-index c.entry-item.result c.entries-test.true
     c.entry-item.is)
     c.entries.invariant.passed c.entries.invariant.left.same c.entries.invariant.left.adds.stays
-    c.in_err-row.ensures.left.adds.stays
+    c.in-Err.ensures.left.adds.stays
     c.entries.invariant.left.later
-    (subst (λ (cs : List Config). IsMemory c.in_err-row.field-0.0
+    (subst (λ (cs : List Config). IsMemory c.in-Err.error
     ⊎ StopsAt cs (g.I.Index.view (index_of c.entries.index)).gives (cached_by c.entries.index)
     (g.I.Index.view (index_of c.entries.index)).faults
     (g.I.Index.view (index_of c.entry_row.new.index)).faults (row_entry_view c.entry-item.result)
-    c.in_err-row.field-0.0) c.entries.invariant.addresses.own c.in_err-row.ensures.error))
+    c.in-Err.error) c.entries.invariant.addresses.own c.in-Err.ensures.error) c.at_entry.ensures
 
 pub entries-preserved : goal.entries-preserved
 entries-preserved g c =
@@ -128,7 +126,7 @@ entries-preserved g c =
     let more = names-more row_entry_view c.args.entries.now c.entries.entry-index c.entry-item.result
     c.entries-test.true c.entry-item.is in
     let lines = ap (map line_of) c.in_ok-push.ensures.items ∙ map-append line_of c.entries.rows.items
-    (c.in_ok-row.row ∷ []) in
+    (c.in-Ok.row ∷ []) in
     let first = (g.I.Index.view (index_of c.args.index.now)).gives in
     let last = (g.I.Index.view (index_of c.entries.index)).gives in
     let old = cached_by c.args.index.now in
@@ -142,21 +140,21 @@ entries-preserved g c =
     let then_pairs = holds_pair c.entry_row.new.books.pairs in
     let under = c.entries.invariant.addresses.own in
     let step = subst (λ (cs : List Config). IsEntryStep cs e last now next lookups then_lookups pairs then_pairs)
-    under c.in_ok-row.ensures.step in
+    under c.in-Ok.ensures.step in
     let same = entry-step-with configs e first last now next lookups then_lookups pairs then_pairs
     c.entries.invariant.left.same step in
     let cached = entry-cached configs e last now next lookups then_lookups pairs then_pairs
     c.entries.invariant.cached step in
-    let stays = c.in_ok-row.ensures.left.adds.stays in
+    let stays = c.in-Ok.ensures.left.adds.stays in
     let rows = rows-further c.args.job.number c.args.job.parsed.options.now rust configs now next front
     (map line_of c.entries.rows.items) e
-    (line_of c.in_ok-row.row) c.entries.invariant.passed stays c.entries.invariant.rows
+    (line_of c.in-Ok.row) c.entries.invariant.passed stays c.entries.invariant.rows
     (subst (λ (cs : List Config). IsRowBy (cached_basis c.args.job.number c.args.job.parsed.options.now rust cs
-    next) e (line_of c.in_ok-row.row)) under c.in_ok-row.ensures.row) in
+    next) e (line_of c.in-Ok.row)) under c.in-Ok.ensures.row) in
     let basis = cached_basis c.args.job.number c.args.job.parsed.options.now rust configs next in
     record {
       addresses = subst (λ (cs : List Config). AreAddresses cs c.entry_row.new.addresses) under
-          c.in_ok-row.ensures.addresses;
+          c.in-Ok.ensures.addresses;
       cached = cached.0;
       steps = subst (λ (es : List RowEntry). AreSteps configs first es old next before then_lookups first_pairs
           then_pairs) (sym more)
@@ -180,7 +178,7 @@ entries-preserved g c =
           (g.I.Index.view (index_of c.entry_row.new.index)).gives
           (g.I.Index.view (index_of c.entries.index)).faults
           (g.I.Index.view (index_of c.entry_row.new.index)).faults now next) under
-          c.in_ok-row.ensures.left);
+          c.in-Ok.ensures.left);
     }
 
 pub returns-clause-steps : goal.returns-clause-steps

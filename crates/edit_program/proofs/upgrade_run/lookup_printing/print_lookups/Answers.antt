@@ -36,7 +36,7 @@ returns-in-Err-clause-why g c =
     let new = g.S.Store.view c.explain_upgrade.new.files in
     let s = c.in_ok-sources.sources in
     subst (λ e. IsLookupsCause args current home old new e) (sym c.explain_upgrade.ensures.same)
-    (unplanned_cause args current home old new s c.in-Err.error
+    (unplanned_cause args current home old new s c.in-Err.failure.error
     (λ t. subst (λ a. AreRead old.file_at current home a s) c.to_lookup_request.ensures
     (c.in_ok-sources.ensures.read t))
     c.in-Err.ensures.error)

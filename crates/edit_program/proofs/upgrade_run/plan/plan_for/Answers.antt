@@ -22,9 +22,9 @@ returns-in-Files-clause-error g c =
     let test = test_of c.args.restriction in
     over_files g.T.Store.view c.with_bound.result c.args.index_files c.args.args.now.published_before
     c.args.index
-    (λ (view : IndexView). IfErr c.plan_over.result (λ e. IsMemory e
+    (λ (view : IndexView). IfErr c.plan_over.result (λ f. IsMemory f.error
     ⊎ IsPlanCause c.args.args.now.options c.args.target.now.inputs.items (lists_for c.args.configs.now)
-    (restricted_view test view) e))
+    (restricted_view test view) f.error))
     c.in-Files.is c.with_bound.ensures.store c.with_bound.ensures.bound c.plan_over.ensures.error
 
 pub returns-in-Files-clause-counted : goal.returns-in-Files-clause-counted
@@ -52,9 +52,9 @@ returns-in-Folder-clause-error g c =
     let test = test_of c.args.restriction in
     over_folder g.T.Store.view c.with_bound-in-Folder.result c.args.index_files
     c.args.args.now.published_before c.args.index c.in-Folder.folder
-    (λ (view : IndexView). IfErr c.plan_over-in-Folder.result (λ e. IsMemory e
+    (λ (view : IndexView). IfErr c.plan_over-in-Folder.result (λ f. IsMemory f.error
     ⊎ IsPlanCause c.args.args.now.options c.args.target.now.inputs.items (lists_for c.args.configs.now)
-    (restricted_view test view) e))
+    (restricted_view test view) f.error))
     c.in-Folder.is c.with_bound-in-Folder.ensures.store c.with_bound-in-Folder.ensures.bound
     c.with_bound-in-Folder.ensures.folder c.plan_over-in-Folder.ensures.error
 

@@ -60,19 +60,19 @@ returns-clause-error g c =
     let documents = documents_of c.args.target.now.documents.items c.args.target.now.inputs.items docs is
     c.deref-2.ensures.value c.deref.ensures.value c.requires.documents in
     over_restricted g.I.Index.view c.in_ok-index.index c.args.index (test_of c.args.restriction)
-    (λ (v : IndexView). IfErr r (λ e. IsMemory e
-    ⊎ IsPlanCause o c.args.target.now.inputs.items (lists_for c.args.configs.now) v e))
+    (λ (v : IndexView). IfErr r (λ f. IsMemory f.error
+    ⊎ IsPlanCause o c.args.target.now.inputs.items (lists_for c.args.configs.now) v f.error))
     c.in_ok-index.ensures.index c.in_ok-index.ensures.test
     (subst (λ (xs : List Input). IfErr r
-    (λ e. IsMemory e ⊎ IsPlanCause o xs (lists_for c.args.configs.now) view e)) c.deref.ensures.value
+    (λ f. IsMemory f.error ⊎ IsPlanCause o xs (lists_for c.args.configs.now) view f.error)) c.deref.ensures.value
     (subst (λ (ls : List (Vec Config)). IfErr r
-    (λ e. IsMemory e ⊎ IsPlanCause o is (chosen_lists ls c.args.configs.now.which.items) view e))
+    (λ f. IsMemory f.error ⊎ IsPlanCause o is (chosen_lists ls c.args.configs.now.which.items) view f.error))
     c.deref-3.ensures.value
     (subst (λ (js : List ℕ). IfErr r
-    (λ e. IsMemory e ⊎ IsPlanCause o is (chosen_lists c.deref-3.result.now js) view e))
+    (λ f. IsMemory f.error ⊎ IsPlanCause o is (chosen_lists c.deref-3.result.now js) view f.error))
     c.deref-4.ensures.value
-    (both_causes r _ _ _ (λ e given read. shared_refused (view_of g.I.Index.view) c.in_ok-index.index o is
-    (chosen_lists c.deref-3.result.now c.deref-4.result.now) docs c.new-cache.result c.plan_shared.new.index e
+    (both_causes r _ _ _ (λ f given read. shared_refused (view_of g.I.Index.view) c.in_ok-index.index o is
+    (chosen_lists c.deref-3.result.now c.deref-4.result.now) docs c.new-cache.result c.plan_shared.new.index f
     c.new-cache.ensures.index c.new-cache.ensures.empty c.plan_shared.ensures.left documents given read)
     c.plan_shared.ensures.given c.plan_shared.ensures.read))))
 
@@ -82,10 +82,10 @@ returns-clause-counted g c =
     let docs = c.deref-2.result.now in
     let documents = documents_of c.args.target.now.documents.items c.args.target.now.inputs.items docs is
     c.deref-2.ensures.value c.deref.ensures.value c.requires.documents in
-    both_causes c.plan_shared.result _ _ _ (λ e given read.
-    restricted_fault g.I.Index.view c.in_ok-index.index c.args.index e c.in_ok-index.ensures.index
+    both_causes c.plan_shared.result _ _ _ (λ f given read.
+    restricted_fault g.I.Index.view c.in_ok-index.index c.args.index f.error c.in_ok-index.ensures.index
     (shared_count (view_of g.I.Index.view) c.in_ok-index.index c.args.options.now is
-    (chosen_lists c.deref-3.result.now c.deref-4.result.now) docs c.new-cache.result c.plan_shared.new.index e
+    (chosen_lists c.deref-3.result.now c.deref-4.result.now) docs c.new-cache.result c.plan_shared.new.index f
     c.new-cache.ensures.index documents given read))
     c.plan_shared.ensures.given c.plan_shared.ensures.read
 
