@@ -8,9 +8,9 @@ ghost use Rattle.edit_metadata.specs.Inputs.{HaveOwnPaths};
 
 use crate::print_helpers::print_text;
 use edit_base::CargoResult;
-use edit_report::{Output, apply};
+use edit_report::Output;
 use edit_set_version::{BumpLevel, Selection, SetVersionPlan, TargetVersion, plan_set_version};
-use edit_steps::{ReadWorkspace, read_workspace};
+use edit_steps::{ReadWorkspace, apply, read_workspace};
 use edit_store::HostStore;
 use std::alloc::Global;
 use std::io::Write;

@@ -1,4 +1,3 @@
-pub mod ApplyLemmas
 pub mod NameSetLemmas
 pub mod ReportFacts
 pub mod TableLemmas

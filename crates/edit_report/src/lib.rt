@@ -1,4 +1,4 @@
-//! The report of an upgrade, and the writing of planned outputs to their files.
+//! The report of an upgrade, and the new bytes of a manifest.
 #![tactic(auto)]
 
 mod layout;
@@ -9,7 +9,7 @@ pub mod shell;
 mod shows;
 mod table;
 
-pub use output::{Output, apply};
+pub use output::Output;
 pub use row::{Change, Reason, Row};
 pub use shell::{
     shell_note, shell_print, shell_status, shell_warn, shell_write_stderr, shell_write_stdout,

@@ -2,6 +2,7 @@ pub mod DistinctPaths
 pub mod NormalPaths
 pub mod ErrorFields
 pub mod WorkspaceLemmas
+pub mod ApplyLemmas
 pub mod Written
 pub mod FoundLemmas
 pub mod ReadLemmas

@@ -1,6 +1,6 @@
 -- Files that are read before outputs are written to them.
 use Rattle.std.proofs.Common.{◌∙◌, ◌++◌, List, [], ap, append-nil, arith, map, sym}
-use Rattle.edit_report.proofs.ApplyLemmas.{stopped_since}
+use Rattle.edit_steps.proofs.ApplyLemmas.{stopped_since}
 use Rattle.edit_report.specs.Applied.{AreWritten, HasStopped, path_of}
 use Rattle.edit_report.specs.declared.output.Output.{Output}
 use Rattle.edit_store.specs.Store.{OnlyReads, StoreView}

@@ -17,7 +17,7 @@ mod workspaces;
 
 pub use inputs::at_input;
 pub use lock_fault::at_lock;
-pub use outputs::{stage_outputs, write_outputs};
+pub use outputs::{apply, stage_outputs, write_outputs};
 pub use paths::absolute_path;
 pub use reread::at_first;
 pub use run_error::{RunError, RunResult, at_byte, at_file, at_path, position, print_error};

@@ -2,116 +2,69 @@
 ghost use Rattle.std.specs.Prelude.{◌≡◌, ◌≢◌, ◌<◌, ◌≤◌, [], IfErr, OnErr, OnOk, length, true};
 ghost use Rattle.edit_base.specs.declared.errors.DeviceCall.TheVariants as call;
 ghost use Rattle.edit_report.specs.Applied.{AreWritten, HasStopped, HaveDistinctPaths, IsWhole, path_of, steps_at, steps_to_prepare, steps_to_write};
-ghost use Rattle.edit_store.specs.Store.{AreStepsTaken, IsStepTaken, IsWrittenAtMostOnce, IsWrittenOnce, OnlyReads, IsCallError, SameBut, SameFiles};
+ghost use Rattle.edit_store.specs.Store.{AreStepsTaken, HasCause, IsStepTaken, IsWrittenAtMostOnce, IsWrittenOnce, OnlyReads, IsCallError, SameBut, SameFiles};
 ghost use Rattle.edit_store.specs.declared.store.StepKind.TheVariants as step;
 
 use crate::output_error::at_output;
 use crate::run_error::{RunResult, at_file};
+use edit_base::CargoResult;
 use edit_report::Output;
-use edit_store::Store;
+use edit_store::{StepKind, Store};
 use std::alloc::Global;
 
-/// Stages the write of an output. No file changes.
-fn stage_output<S: Store>(alloc: Global, output: &Output, files: &mut S) -> RunResult<()>
-    ensures tells { (S.view files.new).tells ≡ (S.view files.old).tells }
-    ensures later { (S.view files.old).faults ≤ (S.view files.new).faults }
-    ensures files { SameFiles (S.view files.old).file_at (S.view files.new).file_at }
-    ensures writes { (S.view files.new).writes ≡ (S.view files.old).writes }
+/// Takes a step before the write of an output: stages it, flushes it to the disk, or verifies that the file
+/// still has the bytes that were read. No file changes.
+fn prepare_output<S: Store>(
+    alloc: Global,
+    kind: StepKind,
+    output: &Output,
+    files: &mut S,
+) -> RunResult<()>
+    requires { kind ≢ step.Write }
+    ensures reads { OnlyReads (S.view files.old) (S.view files.new) }
     ensures ready { OnOk result ((S.view files.new).stage_errors ≡ (S.view files.old).stage_errors) }
-    ensures step { OnOk result (IsStepTaken step.Stage (path_of output.now)
-        (S.view files.old) (S.view files.new)) }
+    ensures step { OnOk result (IsStepTaken kind (path_of output.now) (S.view files.old) (S.view files.new)) }
     ensures error { IfErr result
         (λ r. IsCallError call.Write (S.view files.old) (S.view files.new) r.error) }
 {
     let path = output.path.as_str();
-    match files.stage(alloc, path, output.bytes.as_slice()) {
+    let done = match kind {
+        StepKind::Stage => files.stage(alloc, path, output.bytes.as_slice()),
+        StepKind::Flush => files.flush(alloc, path),
+        StepKind::Verify => files.verify(alloc, path),
+        StepKind::Write => unreachable!(),
+    };
+    match done {
         Ok(()) => Ok(()),
         Err(error) => Err(at_file(alloc, error, path, files.reason(alloc))),
     }
 }
 
-/// Flushes the staged write of an output to the disk. No file changes.
-fn flush_output<S: Store>(alloc: Global, output: &Output, files: &mut S) -> RunResult<()>
-    ensures tells { (S.view files.new).tells ≡ (S.view files.old).tells }
-    ensures later { (S.view files.old).faults ≤ (S.view files.new).faults }
-    ensures files { SameFiles (S.view files.old).file_at (S.view files.new).file_at }
-    ensures writes { (S.view files.new).writes ≡ (S.view files.old).writes }
-    ensures ready { OnOk result ((S.view files.new).stage_errors ≡ (S.view files.old).stage_errors) }
-    ensures step { OnOk result (IsStepTaken step.Flush (path_of output.now)
-        (S.view files.old) (S.view files.new)) }
-    ensures error { IfErr result
-        (λ r. IsCallError call.Write (S.view files.old) (S.view files.new) r.error) }
-{
-    let path = output.path.as_str();
-    match files.flush(alloc, path) {
-        Ok(()) => Ok(()),
-        Err(error) => Err(at_file(alloc, error, path, files.reason(alloc))),
-    }
-}
-
-/// Verifies that the file of an output still has the bytes that were read. No file changes.
-fn verify_output<S: Store>(alloc: Global, output: &Output, files: &mut S) -> RunResult<()>
-    ensures tells { (S.view files.new).tells ≡ (S.view files.old).tells }
-    ensures later { (S.view files.old).faults ≤ (S.view files.new).faults }
-    ensures files { SameFiles (S.view files.old).file_at (S.view files.new).file_at }
-    ensures writes { (S.view files.new).writes ≡ (S.view files.old).writes }
-    ensures ready { OnOk result ((S.view files.new).stage_errors ≡ (S.view files.old).stage_errors) }
-    ensures step { OnOk result (IsStepTaken step.Verify (path_of output.now)
-        (S.view files.old) (S.view files.new)) }
-    ensures error { IfErr result
-        (λ r. IsCallError call.Write (S.view files.old) (S.view files.new) r.error) }
-{
-    let path = output.path.as_str();
-    match files.verify(alloc, path) {
-        Ok(()) => Ok(()),
-        Err(error) => Err(at_file(alloc, error, path, files.reason(alloc))),
-    }
-}
-
-/// Stages the writes of the outputs, in order. No file changes.
-fn stage_all<S: Store>(alloc: Global, outputs: &[Output], files: &mut S) -> RunResult<()>
-    ensures tells { (S.view files.new).tells ≡ (S.view files.old).tells }
-    ensures later { (S.view files.old).faults ≤ (S.view files.new).faults }
-    ensures files { SameFiles (S.view files.old).file_at (S.view files.new).file_at }
-    ensures writes { (S.view files.new).writes ≡ (S.view files.old).writes }
+/// Takes a step before the write of each output, in order. No file changes.
+fn prepare_all<S: Store>(
+    alloc: Global,
+    kind: StepKind,
+    outputs: &[Output],
+    files: &mut S,
+) -> RunResult<()>
+    requires { kind ≢ step.Write }
+    ensures reads { OnlyReads (S.view files.old) (S.view files.new) }
     ensures ready { OnOk result ((S.view files.new).stage_errors ≡ (S.view files.old).stage_errors) }
     ensures some { OnErr result (0 < length outputs.now) }
-    ensures steps { OnOk result (AreStepsTaken (steps_at step.Stage outputs.now)
+    ensures steps { OnOk result (AreStepsTaken (steps_at kind outputs.now)
         (S.view files.old) (S.view files.new)) }
     ensures error { IfErr result
         (λ r. IsCallError call.Write (S.view files.old) (S.view files.new) r.error) }
 {
     for output in outputs {
-        stage_output(alloc, output, files)?;
-    }
-    Ok(())
-}
-
-/// Flushes the staged writes of the outputs to the disk, in order. No file changes.
-fn flush_all<S: Store>(alloc: Global, outputs: &[Output], files: &mut S) -> RunResult<()>
-    ensures tells { (S.view files.new).tells ≡ (S.view files.old).tells }
-    ensures later { (S.view files.old).faults ≤ (S.view files.new).faults }
-    ensures files { SameFiles (S.view files.old).file_at (S.view files.new).file_at }
-    ensures writes { (S.view files.new).writes ≡ (S.view files.old).writes }
-    ensures ready { OnOk result ((S.view files.new).stage_errors ≡ (S.view files.old).stage_errors) }
-    ensures some { OnErr result (0 < length outputs.now) }
-    ensures steps { OnOk result (AreStepsTaken (steps_at step.Flush outputs.now)
-        (S.view files.old) (S.view files.new)) }
-    ensures error { IfErr result
-        (λ r. IsCallError call.Write (S.view files.old) (S.view files.new) r.error) }
-{
-    for output in outputs {
-        flush_output(alloc, output, files)?;
+        prepare_output(alloc, kind, output, files)?;
     }
     Ok(())
 }
 
 /// Stages the writes of the outputs, and flushes them to the disk. No file changes.
 fn make_ready<S: Store>(alloc: Global, outputs: &[Output], files: &mut S) -> RunResult<()>
-    ensures tells { (S.view files.new).tells ≡ (S.view files.old).tells }
-    ensures later { (S.view files.old).faults ≤ (S.view files.new).faults }
-    ensures files { SameFiles (S.view files.old).file_at (S.view files.new).file_at }
-    ensures writes { (S.view files.new).writes ≡ (S.view files.old).writes }
+    ensures reads { OnlyReads (S.view files.old) (S.view files.new) }
     ensures ready { OnOk result ((S.view files.new).stage_errors ≡ (S.view files.old).stage_errors) }
     ensures some { OnErr result (0 < length outputs.now) }
     ensures steps { OnOk result (AreStepsTaken (steps_to_prepare outputs.now)
@@ -119,27 +72,8 @@ fn make_ready<S: Store>(alloc: Global, outputs: &[Output], files: &mut S) -> Run
     ensures error { IfErr result
         (λ r. IsCallError call.Write (S.view files.old) (S.view files.new) r.error) }
 {
-    stage_all(alloc, outputs, files)?;
-    flush_all(alloc, outputs, files)
-}
-
-/// Verifies that the files of the outputs still have the bytes that were read, in order. No file changes.
-fn verify_all<S: Store>(alloc: Global, outputs: &[Output], files: &mut S) -> RunResult<()>
-    ensures tells { (S.view files.new).tells ≡ (S.view files.old).tells }
-    ensures later { (S.view files.old).faults ≤ (S.view files.new).faults }
-    ensures files { SameFiles (S.view files.old).file_at (S.view files.new).file_at }
-    ensures writes { (S.view files.new).writes ≡ (S.view files.old).writes }
-    ensures ready { OnOk result ((S.view files.new).stage_errors ≡ (S.view files.old).stage_errors) }
-    ensures some { OnErr result (0 < length outputs.now) }
-    ensures steps { OnOk result (AreStepsTaken (steps_at step.Verify outputs.now)
-        (S.view files.old) (S.view files.new)) }
-    ensures error { IfErr result
-        (λ r. IsCallError call.Write (S.view files.old) (S.view files.new) r.error) }
-{
-    for output in outputs {
-        verify_output(alloc, output, files)?;
-    }
-    Ok(())
+    prepare_all(alloc, StepKind::Stage, outputs, files)?;
+    prepare_all(alloc, StepKind::Flush, outputs, files)
 }
 
 /// Writes an output to its file.
@@ -206,12 +140,12 @@ fn stage_and_write<S: Store>(alloc: Global, outputs: &[Output], files: &mut S) -
         (λ r. IsCallError call.Write (S.view files.old) (S.view files.new) r.error) }
 {
     make_ready(alloc, outputs, files)?;
-    verify_all(alloc, outputs, files)?;
+    prepare_all(alloc, StepKind::Verify, outputs, files)?;
     write_all(alloc, outputs, files)
 }
 
-/// Writes each output once, in order, to its own path, and stops at the first error. Like `apply`, but the
-/// error has its place, the operating system's reason, and which of the outputs were written before it.
+/// Writes each output once, in order, to its own path, and stops at the first error. The error
+/// has its place, the operating system's reason, and which of the outputs were written before it.
 pub fn write_outputs<S: Store>(alloc: Global, outputs: &[Output], files: &mut S) -> RunResult<()>
     requires { HaveDistinctPaths outputs.now }
     ensures tells { (S.view files.new).tells ≡ (S.view files.old).tells }
@@ -232,6 +166,29 @@ pub fn write_outputs<S: Store>(alloc: Global, outputs: &[Output], files: &mut S)
             files.unstage(alloc);
             Err(failure)
         }
+    }
+}
+
+/// Writes each output once, in order, to its own path, and stops at the first error. The file that was being
+/// written may then hold anything.
+///
+/// Before the first output is written all are staged, flushed to the disk, and compared with what was read:
+/// after an error of these steps each file is unchanged.
+pub fn apply<S: Store>(alloc: Global, outputs: &[Output], store: &mut S) -> CargoResult<()>
+    requires { HaveDistinctPaths outputs.now }
+    ensures tells { (S.view store.new).tells ≡ (S.view store.old).tells }
+    ensures written { OnOk result (AreWritten outputs.now (S.view store.old) (S.view store.new)) }
+    ensures stopped { OnErr result (HasStopped outputs.now (S.view store.old) (S.view store.new)) }
+    ensures staged { OnErr result ((S.view store.new).stage_errors ≢ (S.view store.old).stage_errors
+        → SameFiles (S.view store.old).file_at (S.view store.new).file_at) }
+    ensures cause { HasCause call.Write (S.view store.old) (S.view store.new) result }
+    ensures steps { OnOk result (AreStepsTaken (steps_to_write outputs.now)
+        (S.view store.old) (S.view store.new)) }
+    ensures discarded { OnErr result ((S.view store.old).tells ≡ true → (S.view store.new).steps ≡ []) }
+{
+    match write_outputs(alloc, outputs, store) {
+        Ok(()) => Ok(()),
+        Err(failure) => Err(failure.error),
     }
 }
 

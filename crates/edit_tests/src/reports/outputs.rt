@@ -5,7 +5,8 @@ use crate::assertion_helpers::{
     check_result, error_number_and_text, text, unwrap_alloc, unwrap_ok,
 };
 use edit_base::CargoResult;
-use edit_report::{Output, apply};
+use edit_report::Output;
+use edit_steps::apply;
 use edit_store::{FaultStore, MemoryStore, Store};
 use std::alloc::Global;
 use std::process::Abort;

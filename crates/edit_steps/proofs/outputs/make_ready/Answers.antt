@@ -1,5 +1,5 @@
 -- All are staged, and then all are flushed.
-use Rattle.edit_report.proofs.ApplyLemmas.{on_success_more, steps_after}
+use Rattle.edit_steps.proofs.ApplyLemmas.{on_success_more, steps_after}
 use Rattle.edit_report.specs.Applied.{steps_at}
 use Rattle.edit_store.specs.declared.store.StepKind.TheVariants as step
 use Rattle.edit_steps.proofs.outputs.make_ready.Goals as goal
@@ -7,8 +7,9 @@ use Rattle.edit_steps.proofs.outputs.make_ready.Goals as goal
 pub returns-clause-steps : goal.returns-clause-steps
 returns-clause-steps g c =
     let outputs = c.args.outputs.now in
-    on_success_more c.flush_all.result _ _ (λ flushed.
+    on_success_more c.prepare_all-2.result _ _ (λ flushed.
     steps_after (steps_at step.Stage outputs) (steps_at step.Flush outputs)
-    (g.S.Store.view c.args.files.now) (g.S.Store.view c.stage_all.new.files)
-    (g.S.Store.view c.flush_all.new.files) c.stage_all.ensures.tells c.in_ok-stage_all.ensures.steps flushed)
-    c.flush_all.ensures.steps
+    (g.S.Store.view c.args.files.now) (g.S.Store.view c.prepare_all.new.files)
+    (g.S.Store.view c.prepare_all-2.new.files) c.prepare_all.ensures.reads.tells
+    c.in_ok-prepare_all.ensures.steps flushed)
+    c.prepare_all-2.ensures.steps

@@ -1,5 +1,5 @@
 use Rattle.std.proofs.Common.{◌∙◌, arith, refl, subst}
-use Rattle.edit_report.proofs.ApplyLemmas.{steps_more, steps_none, stopped_at, written_more, written_none}
+use Rattle.edit_steps.proofs.ApplyLemmas.{steps_more, steps_none, stopped_at, written_more, written_none}
 use Rattle.edit_report.specs.Applied.{IsWhole, path_of}
 use Rattle.edit_report.specs.declared.output.Output.{Output}
 use Rattle.edit_store.specs.Store.{IsStepTaken, IsWrittenAtMostOnce, IsWrittenOnce, SameBut}

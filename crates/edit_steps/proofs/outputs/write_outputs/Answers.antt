@@ -1,5 +1,5 @@
 -- Discarding staged writes writes nothing.
-use Rattle.edit_report.proofs.ApplyLemmas.{stopped_still}
+use Rattle.edit_steps.proofs.ApplyLemmas.{stopped_still}
 use Rattle.edit_steps.proofs.outputs.write_outputs.Goals as goal
 
 pub returns-in-Err-clause-stopped : goal.returns-in-Err-clause-stopped

@@ -1,8 +1,0 @@
--- Discarding staged writes writes nothing.
-use Rattle.edit_report.proofs.ApplyLemmas.{stopped_still}
-use Rattle.edit_report.proofs.output.apply.Goals as goal
-
-pub returns-in-Err-clause-stopped : goal.returns-in-Err-clause-stopped
-returns-in-Err-clause-stopped g c =
-    stopped_still c.args.outputs.now _ _ _ c.unstage.ensures.writes c.unstage.ensures.files
-    c.in-Err.ensures.stopped

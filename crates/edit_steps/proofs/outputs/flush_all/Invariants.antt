@@ -1,8 +1,0 @@
-use Rattle.std.proofs.Common.{take}
-use Rattle.edit_report.specs.Applied.{ArePrepared}
-use Rattle.edit_store.specs.declared.store.StepKind.TheVariants as step
-use Rattle.edit_steps.proofs.outputs.flush_all.Given as goal
-
-abbrev pub invariant-loop-output : goal.invariant-loop-output
-invariant-loop-output g l = ArePrepared step.Flush (take l.output-index l.outputs)
-    (g.S.Store.view l.initial.files) (g.S.Store.view l.files)
