@@ -1,8 +1,11 @@
--- The place of a failure of an upgrade's plan: in which manifest, and where (own).
+-- The place of a failure of a plan: in which manifest, and where (own).
 use Rattle.std.specs.Prelude.{◌≡◌, ◌⊎◌, ℕ, List, Some, slice_get, string_bytes, ⊤}
 use Rattle.edit_base.specs.declared.errors.Error.{Error}
 use Rattle.edit_base.specs.declared.errors.Error.TheVariants as error
 use Rattle.edit_metadata.specs.declared.input.Input.{Input}
+use Rattle.edit_set_version.specs.Failures.{manifest_of}
+use Rattle.edit_set_version.specs.declared.failure.VersionFailure.{VersionFailure}
+use Rattle.edit_set_version.specs.declared.failure.VersionOrigin.{VersionOrigin}
 use Rattle.edit_steps.specs.Places.{IsPlaceIn}
 use Rattle.edit_steps.specs.Printed.{position_text}
 use Rattle.edit_tree.specs.Assertions.{Place}
@@ -31,3 +34,11 @@ pub data IsPlaceOf (inputs : List Input) (f : PlanFailure) (text : List ℕ) : T
   of_entry : (i : ℕ) (place : Place) (input : Input) → slice_get inputs i ≡ Some input
       → IsFrom f (at_entry i place) → IsInManifest input text → IsPlaceOf inputs f text
   of_index : IsIndexError f.error → IsPlaceOf inputs f text
+
+-- the text is the place of a failure of new versions: it is in the manifest that the failure names
+pub data IsVersionPlaceOf (f : VersionFailure) (text : List ℕ) : Type 0 where
+  of_bytes : (o : VersionOrigin) → f.origin ≡ Some o
+      → IsPlaceIn (string_bytes (manifest_of o).path) (manifest_of o).bytes.items f.error text
+      → IsVersionPlaceOf f text
+  of_value : (o : VersionOrigin) → f.origin ≡ Some o → IsInManifest (manifest_of o) text
+      → IsVersionPlaceOf f text

@@ -6,15 +6,13 @@ mod delivery;
 mod entries;
 mod explanation;
 mod index_files;
-mod members;
 mod policy;
 mod registries;
-mod requirements;
-mod same;
 mod set_version;
 mod sources;
 mod suggestions;
 mod upgrade;
+mod versions;
 
 pub use delivery::explain_delivery;
 pub use policy::{explain_age, explain_policy};

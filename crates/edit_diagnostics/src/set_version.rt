@@ -1,19 +1,18 @@
-//! Explains errors of a plan of new versions.
-ghost use Rattle.std.specs.Prelude.{◌≡◌};
+//! Explains errors of a plan of new versions, from what caused them.
+ghost use Rattle.std.specs.Prelude.{◌≡◌, IfSome, Some, string_bytes};
+ghost use Rattle.edit_diagnostics.specs.FailurePlaces.{IsInManifest, IsVersionPlaceOf};
+ghost use Rattle.edit_set_version.specs.Failures.{manifest_of};
 
 use crate::explanation::{Explanation, with_explanation};
-use crate::members::{find_rejected_root, find_rejected_version, without_version};
-use crate::requirements::find_unraisable;
 use crate::suggestions::suggestions;
-use edit_base::paths::join;
+use crate::versions::{
+    explain_excluded, explain_member, explain_missing, explain_requirement, explain_root,
+};
 use edit_base::{Error, MissingNames};
-use edit_metadata::{Input, Workspace};
-use edit_set_version::{Selection, TargetVersion};
-use edit_steps::{RunError, at_input};
+use edit_metadata::Workspace;
+use edit_set_version::{Selection, VersionFailure, VersionOrigin};
+use edit_steps::{RunError, at_byte};
 use std::alloc::{AllocError, Global};
-
-/// The help for an excluded member that inherits the version of the workspace.
-const SHARED: &str = "leave out `--exclude` for them: they take their version from the workspace";
 
 /// Suggestions for missing names, from the names of the members.
 fn names_near(
@@ -30,68 +29,71 @@ fn names_near(
     suggestions(alloc, missing, &names)
 }
 
-/// Explains a name that no member has.
-fn missing_member(
-    alloc: Global,
-    missing: &MissingNames,
-    workspace: &Workspace,
-) -> Option<Explanation> {
-    Some(Explanation {
-        place: None,
-        cause: None,
-        help: names_near(alloc, missing, workspace).ok()?,
-    })
+/// The help for an error of names that no member has.
+fn help_for_names(alloc: Global, error: &Error, workspace: &Workspace) -> Option<String> {
+    match error {
+        Error::PackagesMissing(missing) => names_near(alloc, missing, workspace).ok()?,
+        _ => None,
+    }
 }
 
-/// Explains the error of an excluded member that inherits the version of the workspace.
-fn shared_version(alloc: Global, workspace: &Workspace) -> Option<Explanation> {
-    Some(Explanation {
-        place: join(alloc, workspace.root.as_str(), "Cargo.toml").ok(),
-        cause: None,
-        help: String::from_str(alloc, SHARED).ok(),
-    })
-}
-
-/// Explains an error of a plan of new versions.
-fn explain_plan_error(
+/// Explains an error with this origin, from the manifest that the origin names.
+fn explain_origin(
     alloc: Global,
     error: &Error,
-    target: &TargetVersion,
+    origin: &VersionOrigin<'_>,
     selection: &Selection,
     workspace: &Workspace,
-    inputs: &[Input],
-) -> Option<Explanation> {
-    match error {
-        Error::Memory => None,
-        Error::NoVersionPlace => without_version(alloc, selection, workspace, inputs),
-        Error::InvalidRequirement { .. } | Error::Unsupported { .. } => {
-            find_unraisable(alloc, error, selection, workspace, inputs)
-        }
-        Error::PackagesMissing(missing) => missing_member(alloc, missing, workspace),
-        Error::CannotExclude { .. } => shared_version(alloc, workspace),
-        _ => match find_rejected_version(alloc, error, target, selection, workspace, inputs) {
-            Some(found) => Some(found),
-            None => find_rejected_root(alloc, error, target, selection, inputs),
+) -> Option<Explanation>
+    ensures place { IfSome result
+        (λ x. IfSome x.place (λ s. IsInManifest (manifest_of origin.now) (string_bytes s))) }
+{
+    match origin {
+        VersionOrigin::Input(input) => explain_missing(alloc, input, selection, workspace),
+        VersionOrigin::Root(root) => match error {
+            Error::CannotExclude { .. } => explain_excluded(alloc, root),
+            _ => explain_root(alloc, root),
         },
+        VersionOrigin::Member { package, input } => {
+            explain_member(alloc, package, input, selection)
+        }
+        VersionOrigin::Entry { input, place } => {
+            explain_requirement(alloc, input, place, workspace)
+        }
     }
 }
 
-/// Explains an error of a plan of new versions for a workspace, with place and help: the manifest that is
-/// no TOML, the package whose version is missing or cannot be raised, the requirement that cannot be
-/// raised, or the member with the name nearest to one that no member has.
+/// Explains a failure of a plan of new versions for a workspace, with place and help: the manifest that is
+/// no TOML, the version that is missing or cannot be raised, the requirement that cannot be raised, or the
+/// member with the name nearest to one that no member has.
 pub fn explain_set_version(
     alloc: Global,
-    error: Error,
-    target: &TargetVersion,
+    failure: VersionFailure<'_>,
     selection: &Selection,
     workspace: &Workspace,
-    inputs: &[Input],
 ) -> RunError
-    ensures { result.error ≡ error }
+    ensures same { result.error ≡ failure.error }
+    // without a place where memory ran out
+    ensures place { IfSome result.place (λ s. IsVersionPlaceOf failure (string_bytes s)) }
 {
-    if matches!(&error, Error::NotToml { .. } | Error::NotUtf8) {
-        return at_input(alloc, error, inputs);
+    let VersionFailure { error, origin } = failure;
+    let Some(origin) = origin else {
+        let help = help_for_names(alloc, &error, workspace);
+        return RunError {
+            error,
+            place: None,
+            cause: None,
+            help,
+        };
+    };
+    match (&error, &origin) {
+        (Error::Memory, _) => with_explanation(error, None),
+        (Error::NotToml { .. } | Error::NotUtf8, VersionOrigin::Input(input)) => {
+            at_byte(alloc, error, input.path.as_str(), &input.bytes)
+        }
+        _ => {
+            let explanation = explain_origin(alloc, &error, &origin, selection, workspace);
+            with_explanation(error, explanation)
+        }
     }
-    let explanation = explain_plan_error(alloc, &error, target, selection, workspace, inputs);
-    with_explanation(error, explanation)
 }

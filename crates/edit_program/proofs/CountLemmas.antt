@@ -19,9 +19,10 @@ use Rattle.edit_set_version.specs.Chosen.{SelectionView, Member}
 use Rattle.edit_set_version.specs.PlanCauses.{IsExcludeError, IsManifestError, IsMissing, IsVersionError}
 use Rattle.edit_set_version.specs.PlanCauses.IsManifestError.{literal as no_literal, requirement as no_rise}
 use Rattle.edit_set_version.specs.PlanCauses.IsVersionError.{excluded as is_excluded, version as is_unbumped}
-use Rattle.edit_set_version.specs.PlanRefused.{IsCauseOf}
-use Rattle.edit_set_version.specs.PlanRefused.IsCauseOf.{manifest as of_input, memory as of_memory, no_manifest as of_manifest, no_package as of_package, project as of_project}
+use Rattle.edit_set_version.specs.PlanRefused.{IsCauseOf, IsFailureOf}
+use Rattle.edit_set_version.specs.PlanRefused.IsFailureOf.{manifest as of_input, memory as of_memory, no_manifest as of_manifest, no_package as of_package, project as of_project}
 use Rattle.edit_set_version.specs.SetVersioned.{Bump, Project, bumps}
+use Rattle.edit_set_version.specs.declared.failure.VersionFailure.{VersionFailure}
 use Rattle.edit_sources.specs.Configured.{HasNoUrl}
 use Rattle.edit_sources.specs.Configured.HasNoUrl.{breaks, no_address, no_head, no_url}
 use Rattle.edit_sources.specs.Index.{IndexView, Outcomes}
@@ -191,28 +192,34 @@ held_counts : {P : Type 0} (held others : List Member) (e : Error) → IsExclude
 held_counts held others (error.Device _) h device = absurd h
 held_counts held others other h device = cc device
 
-project_counts : {P : Type 0} (t : Target) (a : SelectionView) (p : Project) (e : Error)
-    → IsVersionError t a p e
-    → number_of e ≡ 3 → P
-project_counts t a p e (is_excluded held) = held_counts _ _ e held
-project_counts t a p e (is_unbumped none unbumped) = unbumped_counts _ unbumped.first e unbumped.cause
+project_counts : {P : Type 0} (t : Target) (a : SelectionView) (p : Project) (f : VersionFailure)
+    → IsVersionError t a p f → number_of f.error ≡ 3 → P
+project_counts t a p f (is_excluded held at) = held_counts _ _ f.error held
+project_counts t a p f (is_unbumped none unbumped) =
+    unbumped_counts _ unbumped.first.version f.error unbumped.cause.0
 
-manifests_count : {P : Type 0} (bs : List Bump) (inputs : List Input) (p : Project) (e : Error)
-    → IsManifestError bs inputs p e → number_of e ≡ 3 → P
-manifests_count bs inputs p e (no_literal is lacking) = error_counts e error.NoVersionPlace is (λ h. cc h)
-manifests_count bs inputs p e (no_rise literals unraised) =
-    raise_counts _ unraised.cause.first.text e unraised.cause.cause
+manifests_count : {P : Type 0} (bs : List Bump) (inputs : List Input) (p : Project) (f : VersionFailure)
+    → IsManifestError bs inputs p f → number_of f.error ≡ 3 → P
+manifests_count bs inputs p f (no_literal is lacking) =
+    error_counts f.error error.NoVersionPlace is (λ h. cc h)
+manifests_count bs inputs p f (no_rise literals unraised) =
+    raise_counts _ unraised.cause.first.text f.error unraised.cause.cause.0
 
--- why a plan of versions is refused is no error of the device
+failure_counts : {P : Type 0} (t : Target) (a : SelectionView) (w : WorkspaceModel) (inputs : List Input)
+    (f : VersionFailure) → IsFailureOf t a w inputs f → number_of f.error ≡ 3 → P
+failure_counts t a w inputs f (of_memory memory) = memory_counts f.error memory
+failure_counts t a w inputs f (of_package none) = missing_counts _ f.error none
+failure_counts t a w inputs f (of_manifest known malformed) =
+    manifest_counts malformed.first.bytes.items f.error malformed.cause.0
+failure_counts t a w inputs f (of_project known p is against) = project_counts t a p f against
+failure_counts t a w inputs f (of_input known p is versions fault) =
+    manifests_count (bumps t a p) inputs p f fault
+
+-- the error of a plan of new versions is no error of the device
 pub versions_count : {P : Type 0} (t : Target) (a : SelectionView) (w : WorkspaceModel) (inputs : List Input)
     (e : Error) → IsCauseOf t a w inputs e → number_of e ≡ 3 → P
-versions_count t a w inputs e (of_memory memory) = memory_counts e memory
-versions_count t a w inputs e (of_package none) = missing_counts _ e none
-versions_count t a w inputs e (of_manifest known malformed) =
-    manifest_counts malformed.first.bytes.items e malformed.cause
-versions_count t a w inputs e (of_project known p is against) = project_counts t a p e against
-versions_count t a w inputs e (of_input known p is versions fault) =
-    manifests_count (bumps t a p) inputs p e fault
+versions_count t a w inputs e cause device =
+    failure_counts t a w inputs cause.0 cause.2 (ap number_of cause.1 ∙ device)
 
 -- ---- files
 

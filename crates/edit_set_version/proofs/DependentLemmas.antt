@@ -11,7 +11,6 @@ use Rattle.std.proofs.lemmas.List.Elements.{All-map, All-weaker, filter_map-appe
 use Rattle.semver.specs.Parse.{Parts}
 use Rattle.edit_base.specs.Errors.{IsMemory}
 use Rattle.edit_base.specs.Paths.{parts_of}
-use Rattle.edit_base.specs.declared.errors.Error.{Error}
 use Rattle.edit_manifest.specs.Tables.{Tree}
 use Rattle.edit_version.specs.Requirement.{upgrade_of}
 use Rattle.edit_set_version.specs.Admitted.{AllRise, CanRise}
@@ -22,6 +21,7 @@ use Rattle.edit_set_version.specs.PathDependency.{PathDependency, dependent_by_p
 use Rattle.edit_set_version.specs.PlanCauses.{IsUnraised}
 use Rattle.edit_set_version.specs.SetVersioned.{Bump, Dependent, dependents}
 use Rattle.edit_set_version.specs.declared.dependents.DependentEntry.{DependentEntry}
+use Rattle.edit_set_version.specs.declared.failure.VersionFailure.{VersionFailure}
 use Rattle.edit_set_version.specs.declared.path_deps.PathEntry.{PathEntry}
 use Rattle.edit_set_version.specs.declared.numbers.Numbered.{Numbered}
 use Rattle.edit_set_version.proofs.NumberLemmas.{next_first}
@@ -138,11 +138,11 @@ numbered_more bs file es e =
 -- a requirement that cannot be raised is the first such one of its manifest, where those of the entries before
 -- it are raised
 pub unraised : (bs : List Bump) (file : List ℕ) (t : Tree) (es : List PathEntry) (e : PathEntry)
-    (rest : List PathEntry) (fs : List DependentEntry) (why : Error)
+    (rest : List PathEntry) (fs : List DependentEntry) (why : VersionFailure)
     → path_dependency_views (es ++ e ∷ rest) ≡ path_dependencies t
     → map numbered_dependent_view fs ≡ filter_map (with_bump_index bs file) (path_dependency_views es)
     → All HasRaisedText fs → IsEntryUnraised bs file (path_dependency_view e) why
-    → IsMemory why ⊎ IsUnraised bs file t why
+    → IsMemory why.error ⊎ IsUnraised bs file t why
 unraised bs file t es e rest fs why all same risen (lacks none) = inl none
 unraised bs file t es e rest fs why all same risen (stays f is refused) = inr (record {
   before = filter_map (dependent_by_path bs file) (path_dependency_views es);

@@ -21,12 +21,13 @@ use Rattle.edit_version.specs.Requirement.{UpgradeResult, upgrade_of}
 use Rattle.edit_version.specs.RequirementErrors.{IsUpgradeError}
 use Rattle.edit_set_version.specs.Crates.{IsReadOf}
 use Rattle.edit_set_version.specs.Admitted.{AllRise, CanRise}
-use Rattle.edit_set_version.specs.PlanCauses.{AllRiseIn, HasLiteral, IsUnraised, LacksLiteral}
+use Rattle.edit_set_version.specs.PlanCauses.{AllRiseIn, CanFollow, FailsAtEntry, HasLiteral, IsUnraised, LacksLiteral}
 use Rattle.edit_set_version.specs.PlanLines.{Named}
 use Rattle.edit_set_version.specs.PlanRefused.{IsInputClearBy}
 use Rattle.edit_set_version.specs.Projects.{IsManifestAmong}
 use Rattle.edit_metadata.specs.Inputs.{path_of}
 use Rattle.edit_set_version.specs.SetVersioned.{Bump, Dependent, dependents, writes_own}
+use Rattle.edit_set_version.specs.declared.failure.VersionFailure.{VersionFailure}
 use Rattle.edit_base.proofs.FirstCauseLemmas.{first_good}
 
 -- a requirement that can be raised causes no other error than a lack of memory
@@ -37,23 +38,23 @@ rise_memory r text (error.InvalidRequirement s) can h = absurd (subst CanRise h.
 rise_memory r text (error.Unsupported s) can h = absurd (subst CanRise h.1 can)
 rise_memory r text other can h = absurd h
 
--- the error of a requirement of an input in which nothing is at fault is a lack of memory
-pub unraised_memory : (bs : List Bump) (input : Input) (m : Manifest) (e : Error) → IsReadOf input m
-    → IsMemory e ⊎ IsUnraised bs (path_of input) (tree_of m.document) e → IsInputClearBy bs input → IsMemory e
-unraised_memory bs input m e read (inl none) clear = none
-unraised_memory bs input m e read (inr has) clear =
-    rise_memory (upgrade_of has.first.text has.first.next) has.first.text e
-    (first_good (λ (f : Dependent). CanRise (upgrade_of f.text f.next))
-    (λ (f : Dependent). IsUpgradeError (upgrade_of f.text f.next) f.text e)
-    (dependents bs (path_of input) (tree_of m.document)) has rise) has.cause
+-- the error of a requirement of a manifest whose requirements can all be raised is a lack of memory
+pub unraised_memory : (bs : List Bump) (file : List ℕ) (t : Tree) (f : VersionFailure)
+    → IsMemory f.error ⊎ IsUnraised bs file t f → AllRise bs file t → IsMemory f.error
+unraised_memory bs file t f (inl none) rise = none
+unraised_memory bs file t f (inr has) rise =
+    rise_memory (upgrade_of has.first.text has.first.next) has.first.text f.error
+    (first_good CanFollow (FailsAtEntry file f) (dependents bs file t) has rise) has.cause.0
+
+-- each requirement of an input in which nothing is at fault can be raised, by the tree of its manifest
+pub clear_rise : (bs : List Bump) (input : Input) (m : Manifest) → IsReadOf input m → IsInputClearBy bs input
+    → AllRise bs (path_of input) (tree_of m.document)
+clear_rise bs input m read clear = subst (λ (t : Tree). AllRise bs (path_of input) t) same clear.requirements
   where
     same : view_at clear.form ≡ tree_of m.document
     same =
         ap view_at (one_form input.bytes.items clear.form read.form clear.manifest read.manifest)
         ∙ sym (fun_ext read.shows)
-
-    rise : AllRise bs (path_of input) (tree_of m.document)
-    rise = subst (λ (t : Tree). AllRise bs (path_of input) t) same clear.requirements
 
 -- a manifest that was read has a literal where a bumped version is to be written into it
 pub has_literal : (bs : List Bump) (input : Input) (m : Manifest) → IsReadOf input m

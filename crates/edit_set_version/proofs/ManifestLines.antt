@@ -6,7 +6,7 @@ use Rattle.std.proofs.lemmas.List.{append_assoc, append-nil, map-append, map_mor
 use Rattle.std.proofs.lemmas.List.Elements.{filter-append}
 use Rattle.edit_tree.specs.Assertions.{same_bytes}
 use Rattle.edit_base.specs.Errors.{IsMemory}
-use Rattle.edit_base.specs.declared.errors.Error.{Error}
+use Rattle.edit_set_version.specs.declared.failure.VersionFailure.{VersionFailure}
 use Rattle.edit_set_version.specs.Chosen.{Member}
 use Rattle.edit_set_version.specs.Crates.{member_of, members_of}
 use Rattle.edit_set_version.specs.declared.crates.Crate.{Crate}
@@ -98,16 +98,16 @@ others_more path cs i c within is =
 -- ---- requirements that cannot be raised
 
 -- that of one of several crates, where each requirement of those before it can be raised
-pub unraised_among : (bs : List Bump) (path : List ℕ) (cs : List Crate) (i : ℕ) (c : Crate) (e : Error)
+pub unraised_among : (bs : List Bump) (path : List ℕ) (cs : List Crate) (i : ℕ) (c : Crate) (f : VersionFailure)
     → i < length cs → c ≡ get_or cs i c
     → All (AllRiseIn bs) (other_manifests path (members_of (take i cs)))
-    → IsMemory e ⊎ AreUnraised bs (other_manifests path (member_of c ∷ [])) e
-    → IsMemory e ⊎ AreUnraised bs (other_manifests path (members_of cs)) e
-unraised_among bs path cs i c e within is rise (inl none) = inl none
-unraised_among bs path cs i c e within is rise (inr has) =
-    inr (subst (λ (ms : List Named). AreUnraised bs ms e) (sym split)
-    (first_behind (AllRiseIn bs) (λ (m : Named). IsUnraised bs m.path m.tree e) front (own ++ rest) rise
-    (first_before (AllRiseIn bs) (λ (m : Named). IsUnraised bs m.path m.tree e) own rest has)))
+    → IsMemory f.error ⊎ AreUnraised bs (other_manifests path (member_of c ∷ [])) f
+    → IsMemory f.error ⊎ AreUnraised bs (other_manifests path (members_of cs)) f
+unraised_among bs path cs i c f within is rise (inl none) = inl none
+unraised_among bs path cs i c f within is rise (inr has) =
+    inr (subst (λ (ms : List Named). AreUnraised bs ms f) (sym split)
+    (first_behind (AllRiseIn bs) (λ (m : Named). IsUnraised bs m.path m.tree f) front (own ++ rest) rise
+    (first_before (AllRiseIn bs) (λ (m : Named). IsUnraised bs m.path m.tree f) own rest has)))
   where
     front : List Named
     front = other_manifests path (members_of (take i cs))

@@ -3,16 +3,16 @@ use Rattle.std.specs.Prelude.{◌≡◌, ℕ, List, Option, Some, option_map, st
 use Rattle.std.specs.List.{filter_map}
 use Rattle.semver.specs.Identifiers.{parts_of}
 use Rattle.edit_base.specs.Errors.{IsMemory}
-use Rattle.edit_base.specs.declared.errors.Error.{Error}
 use Rattle.edit_document.specs.Items.{place_view}
 use Rattle.edit_manifest.specs.Tables.{Tree}
-use Rattle.edit_version.specs.RequirementErrors.{IsUpgradeError}
 use Rattle.edit_version.specs.Requirement.{upgrade_of}
 use Rattle.edit_set_version.specs.Folders.{resolve_folder}
 use Rattle.edit_set_version.specs.Admitted.{CanRise}
 use Rattle.edit_set_version.specs.BumpsByFolder.{first_in}
 use Rattle.edit_set_version.specs.PathDependency.{PathDependency, dependent_by_path, path_dependencies}
+use Rattle.edit_set_version.specs.PlanCauses.{FailsAtEntry}
 use Rattle.edit_set_version.specs.SetVersioned.{Bump, Dependent, raised_dependent_text}
+use Rattle.edit_set_version.specs.declared.failure.VersionFailure.{VersionFailure}
 use Rattle.edit_set_version.specs.declared.dependents.DependentEntry.{DependentEntry}
 
 -- the requirement of an entry on a bumped crate, with the index of the bump
@@ -43,9 +43,9 @@ pub record HasRaisedText (f : DependentEntry) : Type 0 where
   pub can : CanRise (upgrade_of (dependent_of f).text (dependent_of f).next)
   pub new : option_map string_bytes f.risen ≡ raised_dependent_text (dependent_of f)
 
--- the error of an entry: its requirement cannot be raised, or out of memory
-pub data IsEntryUnraised (bs : List Bump) (file : List ℕ) (q : PathDependency) (e : Error) : Type 0 where
-  lacks : IsMemory e → IsEntryUnraised bs file q e
-  stays : (f : Dependent) → dependent_by_path bs file q ≡ Some f
-      → IsUpgradeError (upgrade_of f.text f.next) f.text e
-      → IsEntryUnraised bs file q e
+-- the failure of an entry: its requirement cannot be raised, or memory ran out
+pub data IsEntryUnraised (bs : List Bump) (file : List ℕ) (q : PathDependency) (f : VersionFailure)
+    : Type 0 where
+  lacks : IsMemory f.error → IsEntryUnraised bs file q f
+  stays : (d : Dependent) → dependent_by_path bs file q ≡ Some d → FailsAtEntry file f d
+      → IsEntryUnraised bs file q f

@@ -15,6 +15,7 @@ pub mod PathDependency
 pub mod PlanLines
 pub mod LineViews
 pub mod Admitted
+pub mod Failures
 pub mod PlanCauses
 pub mod Selections
 pub mod Missing

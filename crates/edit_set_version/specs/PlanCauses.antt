@@ -1,4 +1,4 @@
--- The causes of errors of a set-version plan, and the error of each (own, after cargo-edit).
+-- The causes of failures of a set-version plan, and the error of each (own, after cargo-edit).
 use Rattle.std.specs.Prelude.{◌≡◌, ◌≢◌, ℕ, List, [], ◌++◌, All, false, true, codes, map, option_to_list, string_bytes}
 use Rattle.std.specs.List.{filter, join_by}
 use Rattle.semver.specs.Parse.{Parts}
@@ -19,8 +19,11 @@ use Rattle.edit_set_version.specs.BumpCauses.{IsBumpable, IsUnbumped}
 use Rattle.edit_set_version.specs.Bumps.{Target, bump}
 use Rattle.edit_set_version.specs.Chosen.{SelectionView, Member, chosen_members, excluded_inheriting, inheriting_members}
 use Rattle.edit_base.specs.FirstCauses.{HasFirstCause}
+use Rattle.edit_set_version.specs.Failures.{Cause, IsFrom}
+use Rattle.edit_set_version.specs.Failures.Cause.{at_entry, at_input, at_member, at_root}
 use Rattle.edit_set_version.specs.PlanLines.{Named, manifests}
-use Rattle.edit_set_version.specs.SetVersioned.{Bump, Project, dependents, workspace_current, writes_own}
+use Rattle.edit_set_version.specs.SetVersioned.{Bump, Dependent, Project, dependents, workspace_current, writes_own}
+use Rattle.edit_set_version.specs.declared.failure.VersionFailure.{VersionFailure}
 
 -- the names of members, joined by commas
 abbrev pub member_names_text : List Member → List ℕ
@@ -41,20 +44,42 @@ IsExcludeError held others _ = ⊥
 
 -- ---- versions
 
+-- a current version, and where it is declared
+pub record Current : Type 0 where
+  pub at : Cause
+  pub version : Parts
+
+-- the current version of the workspace, in the root manifest at a path
+abbrev pub root_current : List ℕ → Parts → Current
+root_current path v = record { at = at_root path; version = v }
+
+-- the current version of a member
+abbrev pub member_current : Member → Current
+member_current m = record { at = at_member m.name m.path; version = m.version }
+
 -- the current versions that a plan bumps: that of the workspace, and those of the chosen members
-abbrev pub currents : SelectionView → Project → List Parts
-currents a p = option_to_list (workspace_current a p) ++ map (λ m. m.version) (chosen_members a p.members)
+abbrev pub currents : SelectionView → Project → List Current
+currents a p =
+    map (root_current p.path) (option_to_list (workspace_current a p))
+    ++ map member_current (chosen_members a p.members)
 
--- the error is that of the first of these versions that cannot be bumped
-abbrev pub AreUnbumped : Target → SelectionView → List Parts → Error → Type 0
-AreUnbumped t a vs e =
-    HasFirstCause (λ v. IsBumpable (bump t a.metadata v)) (λ v. IsUnbumped (bump t a.metadata v) v e) vs
+-- a current version can be bumped
+abbrev pub CanBump : Target → SelectionView → Current → Type 0
+CanBump t a c = IsBumpable (bump t a.metadata c.version)
 
--- the error in the choice of members, and where there is none, in bumping their versions
-pub data IsVersionError (t : Target) (a : SelectionView) (p : Project) (e : Error) : Type 0 where
-  excluded : IsExcludeError (excluded_inheriting a p.members) (inheriting_members a p.members) e
-      → IsVersionError t a p e
-  version : excluded_inheriting a p.members ≡ [] → AreUnbumped t a (currents a p) e → IsVersionError t a p e
+-- the failure is that of a current version, which cannot be bumped
+abbrev pub FailsAtVersion : Target → SelectionView → VersionFailure → Current → Type 0
+FailsAtVersion t a f c = IsUnbumped (bump t a.metadata c.version) c.version f.error × IsFrom f c.at
+
+-- the failure is that of the first of these versions that cannot be bumped
+abbrev pub AreUnbumped : Target → SelectionView → List Current → VersionFailure → Type 0
+AreUnbumped t a cs f = HasFirstCause (CanBump t a) (FailsAtVersion t a f) cs
+
+-- the failure in the choice of members, and where there is none, in bumping their versions
+pub data IsVersionError (t : Target) (a : SelectionView) (p : Project) (f : VersionFailure) : Type 0 where
+  excluded : IsExcludeError (excluded_inheriting a p.members) (inheriting_members a p.members) f.error
+      → IsFrom f (at_root p.path) → IsVersionError t a p f
+  version : excluded_inheriting a p.members ≡ [] → AreUnbumped t a (currents a p) f → IsVersionError t a p f
 
 -- ---- literals
 
@@ -71,32 +96,38 @@ pub record LacksLiteral (bs : List Bump) (input : Input) : Type 0 where
   pub written : filter (writes_own (path_of input)) bs ≢ []
   pub no_value : is_value_at form package_version ≡ false
 
--- one of these inputs is the first that lacks a literal
-abbrev pub LackLiterals : List Bump → List Input → Type 0
-LackLiterals bs inputs = HasFirstCause (HasLiteral bs) (LacksLiteral bs) inputs
+-- the failure is that of the first of these inputs that lacks a literal
+abbrev pub LackLiterals : List Bump → List Input → VersionFailure → Type 0
+LackLiterals bs inputs f =
+    HasFirstCause (HasLiteral bs) (λ i. LacksLiteral bs i × IsFrom f (at_input (path_of i))) inputs
 
 -- ---- requirements
 
--- the error is that of the first requirement of a manifest on a bumped crate that cannot be raised
-abbrev pub IsUnraised : List Bump → List ℕ → Tree → Error → Type 0
-IsUnraised bs file t e =
-    HasFirstCause (λ f. CanRise (upgrade_of f.text f.next)) (λ f. IsUpgradeError
-    (upgrade_of f.text f.next) f.text e)
-    (dependents bs file t)
+-- a requirement on a bumped crate can be raised
+abbrev pub CanFollow : Dependent → Type 0
+CanFollow d = CanRise (upgrade_of d.text d.next)
+
+-- the failure is that of a requirement on a bumped crate in the manifest at a path, which cannot be raised
+abbrev pub FailsAtEntry : List ℕ → VersionFailure → Dependent → Type 0
+FailsAtEntry file f d = IsUpgradeError (upgrade_of d.text d.next) d.text f.error × IsFrom f (at_entry file d.place)
+
+-- the failure is that of the first requirement of a manifest on a bumped crate that cannot be raised
+abbrev pub IsUnraised : List Bump → List ℕ → Tree → VersionFailure → Type 0
+IsUnraised bs file t f = HasFirstCause CanFollow (FailsAtEntry file f) (dependents bs file t)
 
 -- each requirement of a manifest on a bumped crate can be raised
 abbrev pub AllRiseIn : List Bump → Named → Type 0
 AllRiseIn bs m = AllRise bs m.path m.tree
 
--- the error is that of the first of these manifests with a requirement on a bumped crate that cannot be
+-- the failure is that of the first of these manifests with a requirement on a bumped crate that cannot be
 -- raised
-abbrev pub AreUnraised : List Bump → List Named → Error → Type 0
-AreUnraised bs ms e = HasFirstCause (AllRiseIn bs) (λ m. IsUnraised bs m.path m.tree e) ms
+abbrev pub AreUnraised : List Bump → List Named → VersionFailure → Type 0
+AreUnraised bs ms f = HasFirstCause (AllRiseIn bs) (λ m. IsUnraised bs m.path m.tree f) ms
 
 -- ---- manifests
 
--- the error in the manifests of a project: that of a literal; where none is missing, that of a requirement,
+-- the failure in the manifests of a project: that of a literal; where none is missing, that of a requirement,
 -- the root's before those of the other members
-pub data IsManifestError (bs : List Bump) (inputs : List Input) (p : Project) (e : Error) : Type 0 where
-  literal : e ≡ error.NoVersionPlace → LackLiterals bs inputs → IsManifestError bs inputs p e
-  requirement : All (HasLiteral bs) inputs → AreUnraised bs (manifests p) e → IsManifestError bs inputs p e
+pub data IsManifestError (bs : List Bump) (inputs : List Input) (p : Project) (f : VersionFailure) : Type 0 where
+  literal : f.error ≡ error.NoVersionPlace → LackLiterals bs inputs f → IsManifestError bs inputs p f
+  requirement : All (HasLiteral bs) inputs → AreUnraised bs (manifests p) f → IsManifestError bs inputs p f

@@ -10,7 +10,10 @@ use crate::lines::{Line, Owner, bump_line, updating_line};
 use std::alloc::{AllocError, Global};
 
 /// A list of lines for each bump, in the order of the bumps, which holds the bump's own line.
-pub(crate) fn bump_lists(alloc: Global, bumps: &[Bump<'_>]) -> Result<Vec<Vec<Line>>, AllocError>
+pub(crate) fn bump_lists(
+    alloc: Global,
+    bumps: &[Bump<'_, '_>],
+) -> Result<Vec<Vec<Line>>, AllocError>
     ensures ok { IfOk result (λ ls. line_lists_view ls.items
         ≡ map (λ b. bump_line_view b ∷ []) (bumps_view bumps.now)) }
 {

@@ -8,11 +8,12 @@ ghost use Rattle.edit_set_version.specs.BumpCauses.{IsBumpable, IsUnbumped};
 ghost use Rattle.edit_set_version.specs.Bumps.{IsReadableTarget, bump, target_of};
 ghost use Rattle.edit_set_version.specs.Crates.{bump_view, bumps_view, member_of, members_of};
 ghost use Rattle.edit_set_version.specs.Admitted.{AreVersions};
-ghost use Rattle.edit_set_version.specs.PlanCauses.{AreUnbumped};
+ghost use Rattle.edit_set_version.specs.PlanCauses.{AreUnbumped, member_current};
 ghost use Rattle.edit_set_version.specs.Selections.{selection_view};
 ghost use Rattle.edit_set_version.specs.SetVersioned.{bump_of};
 
 use crate::crates::{Bump, Crate};
+use crate::failure::{VersionFailure, at_member};
 use crate::plan::Selection;
 use crate::set_version::TargetVersion;
 use edit_base::CargoResult;
@@ -44,12 +45,12 @@ fn has_numbers(version: &Version)
 }
 
 /// The bump of a crate, `None` where its version does not change.
-fn bump_of<'a>(
+fn bump_of<'a, 'm>(
     alloc: Global,
     target: &TargetVersion,
     selection: &Selection,
-    found: Crate<'a>,
-) -> CargoResult<Option<Bump<'a>>>
+    found: Crate<'a, 'm>,
+) -> CargoResult<Option<Bump<'a, 'm>>>
     ensures ok { IfOk result (λ o. option_map bump_view o
         ≡ bump_of (target_of target.now) (selection_view selection.now) (member_of found.entry)) }
     ensures bumpable { OnOk result (IsBumpable (bump (target_of target.now)
@@ -75,12 +76,12 @@ fn bump_of<'a>(
 }
 
 /// Adds the bump of a crate, where its version changes.
-fn push_bump<'a>(
+fn push_bump<'a, 'm>(
     alloc: Global,
     target: &TargetVersion,
     selection: &Selection,
-    found: Crate<'a>,
-    bumps: &mut Vec<Bump<'a>>,
+    found: Crate<'a, 'm>,
+    bumps: &mut Vec<Bump<'a, 'm>>,
 ) -> CargoResult<()>
     ensures ok { OnOk result (bumps_view bumps.new.items ≡ bumps_view bumps.old.items
         ++ option_to_list (bump_of (target_of target.now) (selection_view selection.now)
@@ -105,12 +106,12 @@ fn push_bump<'a>(
 }
 
 /// The bumps of crates, in order, without those whose version does not change.
-pub(crate) fn bumps_of<'a>(
+pub(crate) fn bumps_of<'a, 'm>(
     alloc: Global,
     target: &TargetVersion,
     selection: &Selection,
-    crates: &[Crate<'a>],
-) -> CargoResult<Vec<Bump<'a>>>
+    crates: &[Crate<'a, 'm>],
+) -> Result<Vec<Bump<'a, 'm>>, VersionFailure<'a>>
     ensures ok { IfOk result (λ bs. bumps_view bs.items
         ≡ filter_map (bump_of (target_of target.now) (selection_view selection.now))
         (members_of crates.now)) }
@@ -119,12 +120,14 @@ pub(crate) fn bumps_of<'a>(
     ensures versions { IsReadableTarget (target_of target.now)
         → All (λ m. IsReadable m.version) (members_of crates.now)
         → IfOk result (λ bs. AreVersions (bumps_view bs.items)) }
-    ensures error { IfErr result (λ e. IsMemory e ⊎ AreUnbumped (target_of target.now)
-        (selection_view selection.now) (map (λ m. m.version) (members_of crates.now)) e) }
+    ensures error { IfErr result (λ f. IsMemory f.error ⊎ AreUnbumped (target_of target.now)
+        (selection_view selection.now) (map member_current (members_of crates.now)) f) }
 {
     let mut bumps = Vec::new(alloc);
     'crates: for found in crates {
-        push_bump(alloc, target, selection, *found, &mut bumps)?;
+        if let Err(error) = push_bump(alloc, target, selection, *found, &mut bumps) {
+            return Err(at_member(error, *found));
+        }
     }
     Ok(bumps)
 }

@@ -49,7 +49,7 @@ fn selected_names_of(alloc: Global, selection: &Selection) -> Result<SelectedNam
 }
 
 /// Whether a member is selected.
-fn is_selected_by(wanted: &SelectedNames, found: Crate<'_>) -> bool
+fn is_selected_by(wanted: &SelectedNames, found: Crate<'_, '_>) -> bool
     ensures { result ≡ is_selected_by wanted.now (member_of found.entry) }
 {
     let named = wanted.names.contains(found.package_info.name.as_str());
@@ -57,7 +57,7 @@ fn is_selected_by(wanted: &SelectedNames, found: Crate<'_>) -> bool
 }
 
 /// Whether a member belongs to a subset.
-fn is_in(part: Part, wanted: &SelectedNames, found: Crate<'_>) -> bool
+fn is_in(part: Part, wanted: &SelectedNames, found: Crate<'_, '_>) -> bool
     ensures { result ≡ is_in part wanted.now (member_of found.entry) }
 {
     let selected = is_selected_by(wanted, found);
@@ -69,7 +69,11 @@ fn is_in(part: Part, wanted: &SelectedNames, found: Crate<'_>) -> bool
 }
 
 /// Appends a crate, where `keep` is set.
-fn push_where<'a>(keep: bool, found: Crate<'a>, list: &mut Vec<Crate<'a>>) -> Result<(), AllocError>
+fn push_where<'a, 'm>(
+    keep: bool,
+    found: Crate<'a, 'm>,
+    list: &mut Vec<Crate<'a, 'm>>,
+) -> Result<(), AllocError>
     ensures ok { OnOk result (members_of list.new.items
         ≡ members_of list.old.items ++ (if keep then member_of found.entry ∷ [] else [])) }
 {
@@ -81,12 +85,12 @@ fn push_where<'a>(keep: bool, found: Crate<'a>, list: &mut Vec<Crate<'a>>) -> Re
 }
 
 /// The members that belong to a subset, in order.
-fn crates_in<'a>(
+fn crates_in<'a, 'm>(
     alloc: Global,
     part: Part,
     wanted: &SelectedNames,
-    crates: &[Crate<'a>],
-) -> Result<Vec<Crate<'a>>, AllocError>
+    crates: &[Crate<'a, 'm>],
+) -> Result<Vec<Crate<'a, 'm>>, AllocError>
     ensures ok { IfOk result (λ cs. members_of cs.items
         ≡ filter (is_in part wanted.now) (members_of crates.now)) }
 {
@@ -99,7 +103,7 @@ fn crates_in<'a>(
 }
 
 /// The names of crates, as one text for an error message.
-fn member_names_text(alloc: Global, crates: &[Crate<'_>]) -> Result<String, AllocError>
+fn member_names_text(alloc: Global, crates: &[Crate<'_, '_>]) -> Result<String, AllocError>
     ensures ok { IfOk result (λ s. string_bytes s ≡ member_names_text (members_of crates.now)) }
 {
     let mut names = Vec::new(alloc);
@@ -110,11 +114,11 @@ fn member_names_text(alloc: Global, crates: &[Crate<'_>]) -> Result<String, Allo
 }
 
 /// The crates of this list that `--exclude` names.
-fn excluded_among<'a>(
+fn excluded_among<'a, 'm>(
     alloc: Global,
     selection: &Selection,
-    crates: &[Crate<'a>],
-) -> Result<Vec<Crate<'a>>, AllocError>
+    crates: &[Crate<'a, 'm>],
+) -> Result<Vec<Crate<'a, 'm>>, AllocError>
     ensures ok { IfOk result (λ cs. members_of cs.items
         ≡ filter (λ m. is_among (selection_view selection.now).exclude m.name) (members_of crates.now)) }
 {
@@ -132,8 +136,8 @@ fn excluded_among<'a>(
 fn check_excluded(
     alloc: Global,
     selection: &Selection,
-    added: &[Crate<'_>],
-    inheriting: &[Crate<'_>],
+    added: &[Crate<'_, '_>],
+    inheriting: &[Crate<'_, '_>],
 ) -> CargoResult<()>
     ensures none { OnOk result (filter (λ m. is_among (selection_view selection.now).exclude m.name)
         (members_of added.now) ≡ []) }
@@ -156,13 +160,13 @@ fn check_excluded(
 
 /// The crates that are bumped, and whether the version of the workspace is bumped.
 #[derive(Drop)]
-pub(crate) struct Choice<'a> {
-    pub(crate) crates: Vec<Crate<'a>>,
+pub(crate) struct Choice<'a, 'm> {
+    pub(crate) crates: Vec<Crate<'a, 'm>>,
     pub(crate) workspace: bool,
 }
 
 /// Whether the list is empty.
-fn is_empty_list(crates: &[Crate<'_>]) -> bool
+fn is_empty_list(crates: &[Crate<'_, '_>]) -> bool
     ensures { result ≡ (length crates.now == 0) }
 {
     crates.is_empty()
@@ -170,12 +174,12 @@ fn is_empty_list(crates: &[Crate<'_>]) -> bool
 
 /// The crates that are not selected but inherit the workspace's version, where a selected crate inherits it
 /// too.
-fn added_by_inheritance<'a>(
+fn added_by_inheritance<'a, 'm>(
     alloc: Global,
     wanted: &SelectedNames,
-    crates: &[Crate<'a>],
-    inheriting: &[Crate<'a>],
-) -> Result<Vec<Crate<'a>>, AllocError>
+    crates: &[Crate<'a, 'm>],
+    inheriting: &[Crate<'a, 'm>],
+) -> Result<Vec<Crate<'a, 'm>>, AllocError>
     ensures ok { IfOk result (λ cs. members_of cs.items ≡ (if length inheriting.now == 0 then []
         else filter (is_in Others wanted.now) (members_of crates.now))) }
 {
@@ -198,11 +202,11 @@ fn is_whole_selected(selection: &Selection) -> bool
 /// These are the selected members. Where one of them inherits its version from the workspace, that version
 /// is bumped too, and with it all members that inherit it. Fails with `Error::CannotExclude` where one of
 /// these is excluded.
-pub(crate) fn choose<'a>(
+pub(crate) fn choose<'a, 'm>(
     alloc: Global,
     selection: &Selection,
-    crates: &[Crate<'a>],
-) -> CargoResult<Choice<'a>>
+    crates: &[Crate<'a, 'm>],
+) -> CargoResult<Choice<'a, 'm>>
     ensures chosen { IfOk result (λ c. members_of c.crates.items
         ≡ chosen_members (selection_view selection.now) (members_of crates.now)) }
     ensures workspace { IfOk result (λ c. c.workspace

@@ -13,16 +13,16 @@ use std::alloc::{AllocError, Global};
 
 /// A member of a workspace: its package in the metadata, its input, and its parsed manifest.
 #[derive(Clone, Copy)]
-pub(crate) struct Crate<'a> {
+pub(crate) struct Crate<'a, 'm> {
     pub(crate) package_info: &'a Package,
     pub(crate) input: &'a Input,
-    pub(crate) manifest: &'a Manifest,
+    pub(crate) manifest: &'m Manifest,
 }
 
 /// A crate and its next version.
 #[derive(Drop)]
-pub(crate) struct Bump<'a> {
-    pub(crate) member: Crate<'a>,
+pub(crate) struct Bump<'a, 'm> {
+    pub(crate) member: Crate<'a, 'm>,
     pub(crate) next: Version,
 }
 
@@ -55,12 +55,12 @@ pub(crate) fn members_in<'a>(
 }
 
 /// Zips packages with their inputs and manifests, each at the same index in its list.
-pub(crate) fn crates_with<'a>(
+pub(crate) fn crates_with<'a, 'm>(
     alloc: Global,
     members: &[&'a Package],
     inputs: &'a [Input],
-    manifests: &'a [Manifest],
-) -> Result<Vec<Crate<'a>>, AllocError>
+    manifests: &'m [Manifest],
+) -> Result<Vec<Crate<'a, 'm>>, AllocError>
     requires inputs { length inputs.now ≡ length members.now }
     requires manifests { length manifests.now ≡ length members.now }
     ensures outcome { IfOk result (λ cs. map (λ c. c.package_info.now) cs.items
@@ -81,12 +81,12 @@ pub(crate) fn crates_with<'a>(
 }
 
 /// Zips members with their inputs and manifests, which are at the end of these lists.
-fn crates_last<'a>(
+fn crates_last<'a, 'm>(
     alloc: Global,
     members: &[&'a Package],
     inputs: &'a [Input],
-    manifests: &'a [Manifest],
-) -> Result<Vec<Crate<'a>>, AllocError>
+    manifests: &'m [Manifest],
+) -> Result<Vec<Crate<'a, 'm>>, AllocError>
     requires inputs { length members.now ≤ length inputs.now }
     requires manifests { length manifests.now ≡ length inputs.now }
     ensures outcome { IfOk result (λ cs. map (λ c. c.package_info.now) cs.items
@@ -101,12 +101,12 @@ fn crates_last<'a>(
 }
 
 /// The members of a workspace, each with its input and manifest.
-pub(crate) fn crates_of<'a>(
+pub(crate) fn crates_of<'a, 'm>(
     alloc: Global,
     workspace: &'a Workspace,
     inputs: &'a [Input],
-    manifests: &'a [Manifest],
-) -> Result<Vec<Crate<'a>>, AllocError>
+    manifests: &'m [Manifest],
+) -> Result<Vec<Crate<'a, 'm>>, AllocError>
     requires inputs { AreInputsOf (workspace_view workspace.now) inputs.now }
     requires manifests { AllZip IsReadOf inputs.now manifests.now }
     ensures ok { IfOk result (λ cs. AllZip (IsMemberOf inputs.entry.now)

@@ -7,6 +7,7 @@ mod bumps;
 mod choose;
 mod crates;
 mod dependents;
+mod failure;
 pub mod laws;
 mod lines;
 mod literals;
@@ -25,7 +26,8 @@ mod shared;
 mod walk;
 mod writes;
 
+pub use failure::{VersionFailure, VersionOrigin};
 pub use path_deps::{PathEntry, path_entries};
 pub use plan::{ChangeKind, Selection, SetVersionPlan, VersionChange};
-pub use planned::plan_set_version;
+pub use planned::{plan_set_version, plan_versions};
 pub use set_version::{BumpLevel, TargetVersion};

@@ -139,7 +139,7 @@ pub(crate) fn updating_line(
 }
 
 /// The line of a crate's bump.
-pub(crate) fn bump_line(alloc: Global, bump: &Bump<'_>) -> Result<Line, AllocError>
+pub(crate) fn bump_line(alloc: Global, bump: &Bump<'_, '_>) -> Result<Line, AllocError>
     ensures ok { IfOk result (λ l. line_view l ≡ bump_line_view (bump_view bump.now)) }
 {
     let owner = Owner {

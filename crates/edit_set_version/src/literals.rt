@@ -8,6 +8,7 @@ ghost use Rattle.edit_set_version.specs.Crates.{IsReadOf, bumps_view};
 ghost use Rattle.edit_set_version.specs.BumpsByFolder.{HasFirstBumps};
 ghost use Rattle.edit_set_version.specs.PlanCauses.{HasLiteral, LackLiterals, LacksLiteral};
 
+use crate::failure::{VersionFailure, at_input};
 use crate::outputs::{PlannedWrites, push_own};
 use edit_base::CargoResult;
 use edit_manifest::Manifest;
@@ -37,21 +38,24 @@ fn check_literal(
 
 /// Fails with `Error::NoVersionPlace` at the first input whose manifest has no literal for a bumped version
 /// that is to be written into it.
-pub(crate) fn check_literals(
+pub(crate) fn check_literals<'i>(
     alloc: Global,
     writing: &PlannedWrites<'_, '_>,
-    inputs: &[Input],
+    inputs: &'i [Input],
     manifests: &[Manifest],
-) -> CargoResult<()>
+) -> Result<(), VersionFailure<'i>>
     requires numbers { HasFirstBumps (bumps_view writing.now.bumps.now) writing.now.numbers.now }
     requires apart { AreApart (bumps_view writing.now.bumps.now) }
     requires read { AllZip IsReadOf inputs.now manifests.now }
     ensures literals { OnOk result (All (HasLiteral (bumps_view writing.now.bumps.now)) inputs.now) }
-    ensures error { IfErr result (λ e. IsMemory e ⊎ ((e ≡ NoVersionPlace)
-        × LackLiterals (bumps_view writing.now.bumps.now) inputs.now)) }
+    ensures error { IfErr result (λ f. IsMemory f.error ⊎ ((f.error ≡ NoVersionPlace)
+        × LackLiterals (bumps_view writing.now.bumps.now) inputs.now f)) }
 {
     'inputs: for i in 0..inputs.len() {
-        check_literal(alloc, writing, &inputs[i], &manifests[i])?;
+        let input = &inputs[i];
+        if let Err(error) = check_literal(alloc, writing, input, &manifests[i]) {
+            return Err(at_input(error, input));
+        }
     }
     Ok(())
 }

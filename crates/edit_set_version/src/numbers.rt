@@ -47,7 +47,7 @@ fn add_bump<'a>(
 /// Indexes bumps by the folder of their crate. Where several share a folder, the first is taken.
 pub(crate) fn index_bumps<'a>(
     alloc: Global,
-    bumps: &'a [Bump<'_>],
+    bumps: &'a [Bump<'_, '_>],
 ) -> CargoResult<BumpsByFolder<'a>>
     ensures ok { IfOk result (HasFirstBumps (bumps_view bumps.entry.now)) }
     ensures error { IfErr result IsMemory }

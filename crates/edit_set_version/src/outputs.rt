@@ -14,7 +14,6 @@ ghost use Rattle.edit_set_version.specs.Apart.{AreApart};
 ghost use Rattle.edit_set_version.specs.Crates.{IsReadOf, bump_view, bumps_view};
 ghost use Rattle.edit_set_version.specs.Admitted.{AllRise};
 ghost use Rattle.edit_set_version.specs.BumpsByFolder.{HasFirstBumps};
-ghost use Rattle.edit_set_version.specs.PlanCauses.{IsUnraised};
 ghost use Rattle.edit_set_version.specs.PlanRefused.{IsInputClearBy};
 ghost use Rattle.edit_set_version.specs.Planned.{AreOutputsOf, HasOutputsBy, OutputsInOrder};
 ghost use Rattle.edit_set_version.specs.SetVersioned.{edits_by, dependents, own_edit, requirement_edit, shared_edits, writes_own};
@@ -40,19 +39,19 @@ pub(crate) struct PlannedWrites<'a, 'n> {
     pub(crate) root: &'a str,
     pub(crate) shared: Option<&'a Version>,
     pub(crate) numbers: &'a BumpsByFolder<'n>,
-    pub(crate) bumps: &'a [Bump<'a>],
+    pub(crate) bumps: &'a [Bump<'a, 'a>],
 }
 
 /// Whether the version of a bumped crate is a literal in the manifest at a path: that is the crate's
 /// manifest, and the version is not inherited.
-fn writes_own(bump: &Bump<'_>, path: &str) -> bool
+fn writes_own(bump: &Bump<'_, '_>, path: &str) -> bool
     ensures { result ≡ writes_own path.now (bump_view bump.now) }
 {
     bump.member.input.path.as_str() == path && !bump.member.manifest.version_is_inherited()
 }
 
 /// The bump at an index.
-fn numbered_bump<'a>(bumps: &'a [Bump<'a>], number: usize) -> &'a Bump<'a>
+fn numbered_bump<'a>(bumps: &'a [Bump<'a, 'a>], number: usize) -> &'a Bump<'a, 'a>
     requires there { number < length bumps.now }
     ensures { result.now ≡ get_or bumps.entry.now number result.now }
 {
@@ -64,7 +63,7 @@ fn own_bump<'a>(
     alloc: Global,
     writing: &PlannedWrites<'a, '_>,
     path: &str,
-) -> CargoResult<Option<&'a Bump<'a>>>
+) -> CargoResult<Option<&'a Bump<'a, 'a>>>
     requires numbers { HasFirstBumps (bumps_view writing.now.bumps.now) writing.now.numbers.now }
     requires apart { AreApart (bumps_view writing.now.bumps.now) }
     ensures ok { IfOk result (λ o. filter (writes_own path.now) (bumps_view writing.entry.now.bumps.now)
@@ -133,24 +132,24 @@ pub(crate) fn push_own(
     Ok(())
 }
 
-/// Adds the edits of the requirements on bumped crates in the manifest at this path.
+/// Adds the edits of the requirements on bumped crates in an input.
 fn push_dependents(
     alloc: Global,
     writing: &PlannedWrites<'_, '_>,
-    path: &str,
+    input: &Input,
     document: &Document,
     edits: &mut Vec<Edit>,
 ) -> CargoResult<()>
     requires numbers { HasFirstBumps (bumps_view writing.now.bumps.now) writing.now.numbers.now }
     ensures ok { OnOk result (edit_views edits.new.items ≡ edit_views edits.old.items
         ++ filter_map requirement_edit
-        (dependents (bumps_view writing.now.bumps.now) path.now (tree_of document.now))) }
+        (dependents (bumps_view writing.now.bumps.now) (path_of input.now) (tree_of document.now))) }
     ensures rise { OnOk result
-        (AllRise (bumps_view writing.now.bumps.now) path.now (tree_of document.now)) }
-    ensures error { IfErr result (λ e. IsMemory e
-        ⊎ IsUnraised (bumps_view writing.now.bumps.now) path.now (tree_of document.now) e) }
+        (AllRise (bumps_view writing.now.bumps.now) (path_of input.now) (tree_of document.now)) }
+    ensures error { IfErr result (λ e. AllRise (bumps_view writing.now.bumps.now) (path_of input.now)
+        (tree_of document.now) → IsMemory e) }
 {
-    let dependents = dependents_of(alloc, writing.numbers, path, document)?;
+    let dependents = dependents_of(alloc, writing.numbers, input, document)?;
     push_requirements(alloc, &dependents, edits)?;
     Ok(())
 }
@@ -177,7 +176,7 @@ fn edits_of(
     let mut edits = Vec::new(alloc);
     push_shared(alloc, writing, path, &mut edits)?;
     push_own(alloc, writing, path, document, &mut edits)?;
-    push_dependents(alloc, writing, path, document, &mut edits)?;
+    push_dependents(alloc, writing, input, document, &mut edits)?;
     Ok(edits)
 }
 

@@ -6,15 +6,14 @@ ghost use Rattle.edit_base.specs.Errors.{IsMemory};
 ghost use Rattle.edit_metadata.specs.Workspaces.{HasOwnFolders, workspace_view};
 ghost use Rattle.edit_version.specs.Laws.{IsReadable};
 ghost use Rattle.edit_set_version.specs.Apart.{AreApart};
-ghost use Rattle.edit_set_version.specs.BumpCauses.{IsBumpable};
-ghost use Rattle.edit_set_version.specs.Bumps.{IsReadableTarget, bump, target_of};
+ghost use Rattle.edit_set_version.specs.Bumps.{IsReadableTarget, target_of};
 ghost use Rattle.edit_set_version.specs.Chosen.{chosen_members, excluded_inheriting};
 ghost use Rattle.edit_set_version.specs.Crates.{IsReadOf, bumps_view, project_view};
 ghost use Rattle.edit_set_version.specs.Admitted.{AreVersions};
-ghost use Rattle.edit_set_version.specs.PlanCauses.{IsManifestError, IsVersionError, currents};
+ghost use Rattle.edit_set_version.specs.PlanCauses.{CanBump, IsManifestError, IsVersionError, currents};
 ghost use Rattle.edit_set_version.specs.Plan.{IsPlan};
 ghost use Rattle.edit_set_version.specs.PlanLines.{lines_of, manifests, shared_lines};
-ghost use Rattle.edit_set_version.specs.PlanRefused.{IsCauseOf, IsInputClearBy};
+ghost use Rattle.edit_set_version.specs.PlanRefused.{IsCauseOf, IsFailureOf, IsInputClearBy};
 ghost use Rattle.edit_set_version.specs.Planned.{HasOutputsBy, OutputsInOrder, has_lines, plan_changes_view, plan_lines_view};
 ghost use Rattle.edit_set_version.specs.Projects.{AreInputsOf, HasProject, IsManifestAmong};
 ghost use Rattle.edit_set_version.specs.Selections.{selection_view};
@@ -25,12 +24,13 @@ ghost use Rattle.edit_set_version.specs.Written.{HasSharedVersion};
 use crate::bumps::bumps_of;
 use crate::choose::choose;
 use crate::crates::Bump;
+use crate::failure::{VersionFailure, at_root};
 use crate::literals::check_literals;
 use crate::manifests::manifests_of;
 use crate::numbers::index_bumps;
 use crate::outputs::{PlannedWrites, outputs_of};
 use crate::plan::{Selection, SetVersionPlan};
-use crate::project::{ProjectRead, project_of};
+use crate::project::{ProjectRead, Root, project_of};
 use crate::rows::{plan_lines, split_lines};
 use crate::set_version::TargetVersion;
 use crate::shared::{current_workspace_version, next_workspace_version};
@@ -43,19 +43,19 @@ use std::alloc::Global;
 /// The versions that change: the current and the next one of the workspace, each where there is one, and
 /// the bumps of members.
 #[derive(Drop)]
-struct Versions<'a> {
+struct Versions<'a, 'm> {
     current: Option<Version>,
     next: Option<Version>,
-    bumps: Vec<Bump<'a>>,
+    bumps: Vec<Bump<'a, 'm>>,
 }
 
 /// The versions that change for a target and a selection.
-fn versions_of<'a>(
+fn versions_of<'a, 'm>(
     alloc: Global,
     target: &TargetVersion,
     selection: &Selection,
-    project: &ProjectRead<'a>,
-) -> CargoResult<Versions<'a>>
+    project: &ProjectRead<'a, 'm>,
+) -> Result<Versions<'a, 'm>, VersionFailure<'a>>
     ensures bumps { IfOk result (λ v. bumps_view v.bumps.items
         ≡ bumps (target_of target.now) (selection_view selection.now) (project_view project.now)) }
     ensures current { IfOk result (λ v. option_map parts_of v.current
@@ -64,19 +64,25 @@ fn versions_of<'a>(
         ≡ workspace_next (target_of target.now) (selection_view selection.now) (project_view project.now)) }
     ensures excluded { OnOk result
         (excluded_inheriting (selection_view selection.now) (project_view project.now).members ≡ []) }
-    ensures bumpable { OnOk result (All (λ v. IsBumpable (bump (target_of target.now)
-        (selection_view selection.now).metadata v))
+    ensures bumpable { OnOk result (All (CanBump (target_of target.now) (selection_view selection.now))
         (currents (selection_view selection.now) (project_view project.now))) }
     ensures versions { IsReadableTarget (target_of target.now)
         → All (λ m. IsReadable m.version) (chosen_members (selection_view selection.now)
         (project_view project.now).members)
         → IfOk result (λ v. AreVersions (bumps_view v.bumps.items)) }
-    ensures error { IfErr result (λ e. IsMemory e
-        ⊎ IsVersionError (target_of target.now) (selection_view selection.now) (project_view project.now) e) }
+    ensures error { IfErr result (λ f. IsMemory f.error
+        ⊎ IsVersionError (target_of target.now) (selection_view selection.now) (project_view project.now) f) }
 {
-    let choice = choose(alloc, selection, &project.members)?;
-    let current = current_workspace_version(alloc, choice.workspace, project.root.manifest)?;
-    let next = next_workspace_version(alloc, target, selection, current.as_ref())?;
+    let Root { input, manifest } = project.root;
+    let choice = match choose(alloc, selection, &project.members) {
+        Ok(choice) => choice,
+        Err(error) => return Err(at_root(error, input)),
+    };
+    let current = current_workspace_version(alloc, choice.workspace, manifest)?;
+    let next = match next_workspace_version(alloc, target, selection, current.as_ref()) {
+        Ok(next) => next,
+        Err(error) => return Err(at_root(error, input)),
+    };
     let bumps = bumps_of(alloc, target, selection, &choice.crates)?;
     Ok(Versions {
         current,
@@ -86,13 +92,13 @@ fn versions_of<'a>(
 }
 
 /// The plan for these changes of versions: outputs and lines.
-fn plan_with(
+fn plan_with<'a, 'm>(
     alloc: Global,
-    project: &ProjectRead<'_>,
-    versions: &Versions<'_>,
-    inputs: &[Input],
+    project: &ProjectRead<'a, 'm>,
+    versions: &Versions<'_, '_>,
+    inputs: &'a [Input],
     read: &[Manifest],
-) -> CargoResult<SetVersionPlan>
+) -> Result<SetVersionPlan, VersionFailure<'a>>
     requires apart { AreApart (bumps_view versions.now.bumps.items) }
     requires read { AllZip IsReadOf inputs.now read.now }
     requires distinct { HaveOwnPaths inputs.now }
@@ -113,8 +119,8 @@ fn plan_with(
         ++ flat_map (lines_of (project_view project.now)) (bumps_view versions.now.bumps.items))) }
     ensures changed { IfOk result (λ plan. plan.changed ≡ has_lines plan) }
     ensures clear { OnOk result (All (IsInputClearBy (bumps_view versions.now.bumps.items)) inputs.now) }
-    ensures error { IfErr result (λ e. IsMemory e ⊎ IsManifestError (bumps_view versions.now.bumps.items)
-        inputs.now (project_view project.now) e) }
+    ensures error { IfErr result (λ f. IsMemory f.error ⊎ IsManifestError
+        (bumps_view versions.now.bumps.items) inputs.now (project_view project.now) f) }
 {
     let numbers = index_bumps(alloc, &versions.bumps)?;
     let old = versions.current.as_ref();
@@ -136,6 +142,31 @@ fn plan_with(
         changes: lines.changes,
         changed,
     })
+}
+
+/// Like `plan_set_version`, but an error comes with what caused it.
+pub fn plan_versions<'a>(
+    alloc: Global,
+    target: &TargetVersion,
+    selection: &Selection,
+    workspace: &'a Workspace,
+    inputs: &'a [Input],
+) -> Result<SetVersionPlan, VersionFailure<'a>>
+    // as `workspace_inputs` returns them, for a workspace that was read
+    requires inputs { AreInputsOf (workspace_view workspace.now) inputs.now }
+    requires folders { HasOwnFolders (workspace_view workspace.now) }
+    // the plan is that of the project which the workspace and the inputs make up
+    ensures planned { IfOk result (λ plan. HasProject (workspace_view workspace.now) inputs.now
+        (IsPlan (target_of target.now) (selection_view selection.now) inputs.now plan)) }
+    // the first cause in the input, or out of memory
+    ensures error { IfErr result (IsFailureOf (target_of target.now) (selection_view selection.now)
+        (workspace_view workspace.now) inputs.now) }
+{
+    selection.check_names(alloc, workspace)?;
+    let manifests = manifests_of(alloc, inputs)?;
+    let project = project_of(alloc, workspace, inputs, &manifests)?;
+    let versions = versions_of(alloc, target, selection, &project)?;
+    plan_with(alloc, &project, &versions, inputs, &manifests)
 }
 
 /// Plans new versions for the members of a workspace, and raises the requirements of their dependents.
@@ -170,9 +201,8 @@ pub fn plan_set_version(
     ensures error { IfErr result (IsCauseOf (target_of target.now) (selection_view selection.now)
         (workspace_view workspace.now) inputs.now) }
 {
-    selection.check_names(alloc, workspace)?;
-    let manifests = manifests_of(alloc, inputs)?;
-    let project = project_of(alloc, workspace, inputs, &manifests)?;
-    let versions = versions_of(alloc, target, selection, &project)?;
-    plan_with(alloc, &project, &versions, inputs, &manifests)
+    match plan_versions(alloc, target, selection, workspace, inputs) {
+        Ok(plan) => Ok(plan),
+        Err(failure) => Err(failure.error),
+    }
 }

@@ -18,16 +18,16 @@ use std::alloc::Global;
 
 /// The root of a workspace: its input and its parsed manifest.
 #[derive(Clone, Copy)]
-pub(crate) struct Root<'a> {
+pub(crate) struct Root<'a, 'm> {
     pub(crate) input: &'a Input,
-    pub(crate) manifest: &'a Manifest,
+    pub(crate) manifest: &'m Manifest,
 }
 
 /// The root of a workspace and its members; the root manifest may be a member's too.
 #[derive(Drop)]
-pub(crate) struct ProjectRead<'a> {
-    pub(crate) root: Root<'a>,
-    pub(crate) members: Vec<Crate<'a>>,
+pub(crate) struct ProjectRead<'a, 'm> {
+    pub(crate) root: Root<'a, 'm>,
+    pub(crate) members: Vec<Crate<'a, 'm>>,
 }
 
 /// The normalized path of the root manifest.
@@ -41,7 +41,7 @@ fn root_path(alloc: Global, workspace: &Workspace) -> CargoResult<String>
 }
 
 /// The root: the input at this path, and its manifest.
-fn root_at<'a>(inputs: &'a [Input], manifests: &'a [Manifest], path: &str) -> Root<'a>
+fn root_at<'a, 'm>(inputs: &'a [Input], manifests: &'m [Manifest], path: &str) -> Root<'a, 'm>
     requires among { Contains (input_paths inputs.now) path.now }
     requires read { AllZip IsReadOf inputs.now manifests.now }
     ensures path { path_of result.input.now ≡ path.now }
@@ -60,12 +60,12 @@ fn root_at<'a>(inputs: &'a [Input], manifests: &'a [Manifest], path: &str) -> Ro
 }
 
 /// The project of a workspace, from its inputs and their manifests.
-pub(crate) fn project_of<'a>(
+pub(crate) fn project_of<'a, 'm>(
     alloc: Global,
     workspace: &'a Workspace,
     inputs: &'a [Input],
-    manifests: &'a [Manifest],
-) -> CargoResult<ProjectRead<'a>>
+    manifests: &'m [Manifest],
+) -> CargoResult<ProjectRead<'a, 'm>>
     requires inputs { AreInputsOf (workspace_view workspace.now) inputs.now }
     requires manifests { AllZip IsReadOf inputs.now manifests.now }
     ensures ok { IfOk result (λ p. IsProject (workspace_view workspace.entry.now) inputs.entry.now

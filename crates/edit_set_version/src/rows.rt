@@ -11,12 +11,12 @@ ghost use Rattle.edit_set_version.specs.PlanLines.{lines_of, manifests, shared_l
 ghost use Rattle.edit_set_version.specs.LineViews.{change_view, line_lists_view, line_view, report_line_view};
 
 use crate::crates::Bump;
+use crate::failure::VersionFailure;
 use crate::lines::{Line, workspace_line};
 use crate::numbers::BumpsByFolder;
 use crate::plan::VersionChange;
 use crate::project::ProjectRead;
 use crate::walk::lists_of;
-use edit_base::CargoResult;
 use semver::Version;
 use std::alloc::{AllocError, Global};
 
@@ -71,14 +71,14 @@ fn shared_line(
 }
 
 /// The lines of a plan: that of the workspace's version where it changes, then those of the bumps.
-pub(crate) fn plan_lines(
+pub(crate) fn plan_lines<'a, 'm>(
     alloc: Global,
     numbers: &BumpsByFolder<'_>,
-    project: &ProjectRead<'_>,
-    bumps: &[Bump<'_>],
+    project: &ProjectRead<'a, 'm>,
+    bumps: &[Bump<'_, '_>],
     old: Option<&Version>,
     new: Option<&Version>,
-) -> CargoResult<Vec<Line>>
+) -> Result<Vec<Line>, VersionFailure<'a>>
     requires numbers { HasFirstBumps (bumps_view bumps.now) numbers.now }
     requires apart { AreApart (bumps_view bumps.now) }
     ensures ok { IfOk result (λ v. map line_view v.items ≡ shared_lines (project_view project.now).path
@@ -86,8 +86,8 @@ pub(crate) fn plan_lines(
         ++ flat_map (lines_of (project_view project.now)) (bumps_view bumps.now)) }
     ensures rise { OnOk result
         (All (AllRiseIn (bumps_view bumps.now)) (manifests (project_view project.now))) }
-    ensures error { IfErr result (λ e. IsMemory e
-        ⊎ AreUnraised (bumps_view bumps.now) (manifests (project_view project.now)) e) }
+    ensures error { IfErr result (λ f. IsMemory f.error
+        ⊎ AreUnraised (bumps_view bumps.now) (manifests (project_view project.now)) f) }
 {
     let lists = lists_of(alloc, numbers, project, bumps)?;
     let first = shared_line(alloc, project.root.input.path.as_str(), old, new)?;

@@ -14,7 +14,7 @@ ghost use Rattle.edit_program.specs.SetVersions.{has_some, no_rust, outputs_to_w
 use crate::set_version_run::set_version_args::SetVersionArgs;
 use edit_diagnostics::explain_set_version;
 use edit_report::Output;
-use edit_set_version::{SetVersionPlan, plan_set_version};
+use edit_set_version::{SetVersionPlan, plan_versions};
 use edit_steps::{ReadWorkspace, RunResult};
 use std::alloc::Global;
 
@@ -35,25 +35,10 @@ pub(crate) fn plan_for(
     ensures counted { IfErr result (λ r. number_of r.error ≢ 3) }
 {
     let ReadWorkspace { workspace, inputs } = read;
-    match plan_set_version(
-        alloc,
-        &args.target,
-        &args.selection,
-        workspace,
-        inputs.as_slice(),
-    ) {
+    let (target, selection) = (&args.target, &args.selection);
+    match plan_versions(alloc, target, selection, workspace, inputs.as_slice()) {
         Ok(plan) => Ok(plan),
-        Err(error) => {
-            let (target, selection) = (&args.target, &args.selection);
-            Err(explain_set_version(
-                alloc,
-                error,
-                target,
-                selection,
-                workspace,
-                inputs.as_slice(),
-            ))
-        }
+        Err(failure) => Err(explain_set_version(alloc, failure, selection, workspace)),
     }
 }
 

@@ -3,13 +3,13 @@ use Rattle.std.specs.List.{filter_map}
 use Rattle.std.specs.Prelude.{All, option_to_list}
 use Rattle.std.proofs.lemmas.List.{map_more, take_all}
 use Rattle.std.proofs.lemmas.List.Elements.{All-contains, All-push}
-use Rattle.std.proofs.lemmas.Result.{err_from_is_err_and}
+use Rattle.edit_base.specs.Errors.{IsMemory}
 use Rattle.edit_version.specs.Laws.{IsReadable}
 use Rattle.edit_set_version.specs.Bumps.{bump, target_of}
 use Rattle.edit_set_version.specs.Chosen.{Member}
 use Rattle.edit_set_version.specs.Crates.{bumps_view, member_of, members_of}
 use Rattle.edit_set_version.specs.Admitted.{AreVersions}
-use Rattle.edit_set_version.specs.BumpCauses.{IsBumpable}
+use Rattle.edit_set_version.specs.BumpCauses.{IsBumpable, IsUnbumped}
 use Rattle.edit_set_version.specs.Selections.{selection_view}
 use Rattle.edit_set_version.specs.SetVersioned.{bump_of}
 use Rattle.edit_set_version.specs.declared.crates.Bump.{Bump as Bumping}
@@ -30,33 +30,34 @@ crates-preserved c =
     = map_more member_of all i c.found-item.result c.crates-test.true
     ∙ ap (λ z. members_of (take i all) ++ member_of z ∷ []) (sym c.found-item.is) in
     record {
-      seen = c.in_ok-push_bump.ensures.ok
+      seen = c.in_default.ensures.ok
           ∙ ap (λ bs. bs ++ option_to_list (bump_of t a own)) c.crates.invariant.seen
           ∙ sym (some_more (bump_of t a) member_of all i c.found-item.result c.crates-test.true
           c.found-item.is);
       bumpable = subst (All Fits) (sym more)
           (All-push Fits (members_of (take i all)) own c.crates.invariant.bumpable
-          c.in_ok-push_bump.ensures.bumpable);
-      versions = λ target each. c.in_ok-push_bump.ensures.versions target
+          c.in_default.ensures.bumpable);
+      versions = λ target each. c.in_default.ensures.versions target
           (All-contains (λ (m : Member). IsReadable m.version) (members_of all) own each
           (among_all member_of all i c.found-item.result c.crates-test.true c.found-item.is))
           (c.crates.invariant.versions target each);
     }
 
-pub returns-in_err-push_bump-clause-error : goal.returns-in_err-push_bump-clause-error
-returns-in_err-push_bump-clause-error c =
-    let p = err_from_is_err_and c.from_residual.result c.from_residual.ensures.1 in
+pub returns-in-Err-clause-error : goal.returns-in-Err-clause-error
+returns-in-Err-clause-error c =
     let t = target_of c.args.target.now in
     let a = selection_view c.args.selection.now in
-    let e = c.in_err-push_bump.field-0.0 in
-    let all = c.args.crates.now in
-    let i = c.crates.found-index in
+    let f = c.at_member.result in
     let x = c.found-item.result in
-    rw (p.1, p.2) (elim c.in_err-push_bump.ensures.error [
-      | inl none ↦ inl none
-      | inr why ↦ inr (unbumped_member t a all i x e c.crates-test.true c.found-item.is
-          c.crates.invariant.bumpable why)
-    ])
+    elim c.in-Err.ensures.error [
+      | inl none ↦ inl (subst IsMemory (sym c.at_member.ensures.error) none)
+      | inr why ↦ inr (unbumped_member t a c.args.crates.now c.crates.found-index x f c.crates-test.true
+          c.found-item.is c.crates.invariant.bumpable (
+            subst (IsUnbumped (bump t a.metadata (member_of x).version) (member_of x).version)
+                (sym c.at_member.ensures.error) why,
+            c.at_member.ensures.origin,
+          ))
+    ]
 
 pub crates-init : goal.crates-init
 crates-init c = record {

@@ -3,6 +3,8 @@ use Rattle.std.specs.Prelude.{All, option_to_list}
 use Rattle.std.proofs.lemmas.List.{map_push}
 use Rattle.std.proofs.lemmas.List.Elements.{All-push}
 use Rattle.std.proofs.lemmas.Result.{err_from_is_err_and}
+use Rattle.edit_base.specs.Errors.{IsMemory}
+use Rattle.edit_metadata.specs.Inputs.{path_of}
 use Rattle.edit_set_version.specs.Dependents.{HasRaisedText, numbered_dependent_view, lacks, stays}
 use Rattle.edit_set_version.specs.Folders.{resolve_folder}
 use Rattle.edit_set_version.specs.BumpsByFolder.{numbered_view, numbered_at}
@@ -12,11 +14,12 @@ use Rattle.edit_set_version.proofs.dependents.push_dependent.Goals as goal
 
 pub returns-in_err-dependent-in-Some-clause-error : goal.returns-in_err-dependent-in-Some-clause-error
 returns-in_err-dependent-in-Some-clause-error c =
-    let file = c.args.file.now in
+    let file = path_of c.args.input.now in
     let q = path_dependency_view c.args.entry in
     let n = numbered_view c.in-Some.bump in
     let numbered = c.in_ok-bump.ensures.ok
-    ∙ ap (λ p. numbered_at c.args.numbers.now (resolve_folder file p)) c.as_str.ensures.value in
+    ∙ ap₂ (λ file p. numbered_at c.args.numbers.now (resolve_folder file p)) c.as_str.ensures.value
+    c.as_str-2.ensures.value in
     let p = err_from_is_err_and c.from_residual-in_err-dependent-in-Some.result
     c.from_residual-in_err-dependent-in-Some.ensures.1 in
     rw (p.1, p.2) (λ bs tells. stays (record { place = q.place; text = q.text; next = n.1 })
@@ -25,14 +28,15 @@ returns-in_err-dependent-in-Some-clause-error c =
     ∙ ap (λ b. option_map (λ n. (n.0, record { place = q.place; text = q.text; next = n.1 }))
     (option_map numbered_view b)) c.in-Some.is)) c.in_err-dependent-in-Some.ensures.error)
 
-pub returns-in_ok-push-in-Some-clause-ok : goal.returns-in_ok-push-in-Some-clause-ok
-returns-in_ok-push-in-Some-clause-ok c = λ bs tells.
-    let file = c.args.file.now in
+pub returns-in-Some-clause-ok : goal.returns-in-Some-clause-ok
+returns-in-Some-clause-ok c = λ bs tells.
+    let file = path_of c.args.input.now in
     let q = path_dependency_view c.args.entry in
     let f = c.in_ok-dependent-in-Some.dependent in
     let was = c.args.dependents.now.items in
     let numbered = c.in_ok-bump.ensures.ok
-    ∙ ap (λ p. numbered_at c.args.numbers.now (resolve_folder file p)) c.as_str.ensures.value in
+    ∙ ap₂ (λ file p. numbered_at c.args.numbers.now (resolve_folder file p)) c.as_str.ensures.value
+    c.as_str-2.ensures.value in
     let is = numbered_by bs c.args.numbers.now file q (option_map numbered_view c.in_ok-bump.bump) tells numbered
     ∙ ap (λ b. option_map (λ n. (n.0, record { place = q.place; text = q.text; next = n.1 }))
     (option_map numbered_view b)) c.in-Some.is in
@@ -42,18 +46,19 @@ returns-in_ok-push-in-Some-clause-ok c = λ bs tells.
     c.in_ok-dependent-in-Some.ensures.entry)
     ∙ ap (λ o. map numbered_dependent_view was ++ option_to_list o) (sym is)
 
-pub returns-in_ok-push-in-Some-clause-risen : goal.returns-in_ok-push-in-Some-clause-risen
-returns-in_ok-push-in-Some-clause-risen c = λ all.
+pub returns-in-Some-clause-risen : goal.returns-in-Some-clause-risen
+returns-in-Some-clause-risen c = λ all.
     subst (All HasRaisedText) (sym c.in_ok-push-in-Some.ensures.items)
     (All-push HasRaisedText c.args.dependents.now.items c.in_ok-dependent-in-Some.dependent all
     c.in_ok-dependent-in-Some.ensures.risen)
 
-pub returns-in-None-clause-ok : goal.returns-in-None-clause-ok
-returns-in-None-clause-ok c = λ bs tells.
-    let file = c.args.file.now in
+pub returns-clause-ok : goal.returns-clause-ok
+returns-clause-ok c = λ bs tells.
+    let file = path_of c.args.input.now in
     let q = path_dependency_view c.args.entry in
     let numbered = c.in_ok-bump.ensures.ok
-    ∙ ap (λ p. numbered_at c.args.numbers.now (resolve_folder file p)) c.as_str.ensures.value in
+    ∙ ap₂ (λ file p. numbered_at c.args.numbers.now (resolve_folder file p)) c.as_str.ensures.value
+    c.as_str-2.ensures.value in
     let is = numbered_by bs c.args.numbers.now file q (option_map numbered_view c.in_ok-bump.bump) tells numbered
     ∙ ap (λ b. option_map (λ n. (n.0, record { place = q.place; text = q.text; next = n.1 }))
     (option_map numbered_view b)) c.in-None.is in
@@ -64,10 +69,10 @@ pub returns-in_err-bump-clause-error : goal.returns-in_err-bump-clause-error
 returns-in_err-bump-clause-error c =
     let r = err_from_is_err_and c.from_residual.result
     c.from_residual.ensures.1 in
-    rw (r.1, r.2) (λ bs tells. lacks c.in_err-bump.ensures.error)
+    rw r.1 (λ bs tells. lacks (subst IsMemory (sym r.2.0) c.in_err-bump.ensures.error))
 
 pub returns-in_err-push-in-Some-clause-error : goal.returns-in_err-push-in-Some-clause-error
 returns-in_err-push-in-Some-clause-error c =
     let r = err_from_is_err_and c.from_residual-in_err-push-in-Some.result
     c.from_residual-in_err-push-in-Some.ensures.1 in
-    rw (r.1, r.2) (λ bs tells. lacks refl)
+    rw r.1 (λ bs tells. lacks (subst IsMemory (sym r.2.0) refl))

@@ -1,8 +1,12 @@
-use Rattle.std.proofs.Common.{◌≡◌, All, arith, inl, inr, rules, subst, take}
+use Rattle.std.proofs.Common.{◌≡◌, ◌∙◌, All, arith, inl, inr, rules, subst, sym, take}
 use Rattle.std.proofs.Math.Seq.{take-length}
 use Rattle.std.proofs.lemmas.List.Elements.{All-more, All-nil}
-use Rattle.std.proofs.lemmas.Result.{err_from_is_err_and}
 use Rattle.std.proofs.lemmas.Slice.Zip.{AllZip-long}
+use Rattle.edit_base.specs.Errors.{IsMemory}
+use Rattle.edit_metadata.specs.Inputs.{path_of}
+use Rattle.edit_metadata.specs.declared.input.Input.{Input}
+use Rattle.edit_set_version.specs.Failures.{IsFrom}
+use Rattle.edit_set_version.specs.Failures.Cause.{at_input}
 use Rattle.edit_set_version.specs.Crates.{IsReadOf, bumps_view}
 use Rattle.edit_set_version.specs.PlanCauses.{HasLiteral, LacksLiteral}
 use Rattle.edit_base.proofs.FirstCauseLemmas.{first_at}
@@ -24,24 +28,25 @@ check_literal-requires-clause-read c =
     c.index-manifests-i.is in
     there.1
 
-pub returns-in_err-check_literal-clause-error : goal.returns-in_err-check_literal-clause-error
-returns-in_err-check_literal-clause-error c =
+pub returns-in-Err-clause-error : goal.returns-in-Err-clause-error
+returns-in-Err-clause-error c =
     let bs = bumps_view c.args.writing.now.bumps.now in
-    let p = err_from_is_err_and c.from_residual.result c.from_residual.ensures.1 in
-    rw (p.1, p.2) (elim c.in_err-check_literal.ensures.error [
-      | inl none ↦ inl none
+    let f = c.at_input.result in
+    elim c.in-Err.ensures.error [
+      | inl none ↦ inl (subst IsMemory (sym c.at_input.ensures.error) none)
       | inr why ↦ inr (
-        why.0,
-        first_at (HasLiteral bs) (LacksLiteral bs) c.args.inputs.now c.inputs.i c.index-inputs-i.result
-            c.inputs-test.true c.index-inputs-i.is c.inputs.invariant why.1,
+        c.at_input.ensures.error ∙ why.0,
+        first_at (HasLiteral bs) (λ (i : Input). LacksLiteral bs i × IsFrom f (at_input (path_of i)))
+            c.args.inputs.now c.inputs.i c.index-inputs-i.result c.inputs-test.true c.index-inputs-i.is
+            c.inputs.invariant (why.1, c.at_input.ensures.origin),
       )
-    ])
+    ]
 
 pub inputs-preserved : goal.inputs-preserved
 inputs-preserved c =
     let bs = bumps_view c.args.writing.now.bumps.now in
     All-more (HasLiteral bs) c.args.inputs.now c.inputs.i c.index-inputs-i.result c.inputs-test.true
-    c.inputs.invariant (subst (HasLiteral bs) c.index-inputs-i.is c.in_ok-check_literal.ensures.literal)
+    c.inputs.invariant (subst (HasLiteral bs) c.index-inputs-i.is c.in_default.ensures.literal)
 
 pub returns-clause-literals : goal.returns-clause-literals
 returns-clause-literals c =

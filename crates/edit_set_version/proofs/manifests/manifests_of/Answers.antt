@@ -5,9 +5,9 @@ use Rattle.std.proofs.lemmas.Slice.Zip.{all_zipped_more}
 use Rattle.edit_tree.specs.Assertions.{IsDocument}
 use Rattle.edit_set_version.specs.Crates.{IsReadOf}
 use Rattle.std.proofs.lemmas.Result.{err_from_is_err_and}
+use Rattle.edit_base.specs.Errors.{IsMemory}
 use Rattle.edit_manifest.specs.Loaded.{IsBadManifest}
-use Rattle.edit_metadata.specs.declared.input.Input.{Input}
-use Rattle.edit_set_version.specs.PlanRefused.{IsManifest}
+use Rattle.edit_set_version.specs.PlanRefused.{FailsAtInput, IsManifest}
 use Rattle.edit_base.proofs.FirstCauseLemmas.{first_at}
 use Rattle.edit_set_version.proofs.ProjectRoot.{all_manifests}
 use Rattle.edit_set_version.proofs.manifests.manifests_of.Goals as goal
@@ -17,36 +17,37 @@ inputs-preserved c =
     let i = c.inputs.input-index in
     let all = c.args.inputs.now in
     let own = c.input-item.result in
-    let found = c.in_ok-manifest.ensures.found in
+    let found = c.in-Ok.ensures.found in
     let more : take (i + 1) all ≡ take i all ++ own ∷ []
     = take_more all i own c.inputs-test.true ∙ ap (λ x. take i all ++ x ∷ []) (sym c.input-item.is) in
-    subst (AllZip IsReadOf (take (i + 1) all)) (sym c.in_ok-push.ensures.items)
-    (subst (λ xs. AllZip IsReadOf xs (c.inputs.manifests.items ++ c.in_ok-manifest.manifest ∷ [])) (sym more)
-    (all_zipped_more IsReadOf (take i all) c.inputs.manifests.items own c.in_ok-manifest.manifest
+    subst (AllZip IsReadOf (take (i + 1) all)) (sym c.in_ok-push-in-Ok.ensures.items)
+    (subst (λ xs. AllZip IsReadOf xs (c.inputs.manifests.items ++ c.in-Ok.manifest ∷ [])) (sym more)
+    (all_zipped_more IsReadOf (take i all) c.inputs.manifests.items own c.in-Ok.manifest
     c.inputs.invariant (record {
-      bytes = c.in_ok-manifest.ensures.bytes ∙ c.deref.ensures.value;
+      bytes = c.in-Ok.ensures.bytes ∙ c.deref.ensures.value;
       form = found.0;
       manifest = subst (λ bs. IsDocument bs found.0) c.deref.ensures.value found.1;
       shows = found.2;
     })))
 
-pub returns-in_err-manifest-clause-error : goal.returns-in_err-manifest-clause-error
-returns-in_err-manifest-clause-error c =
-    let p = err_from_is_err_and c.from_residual-in_err-manifest.result
-    c.from_residual-in_err-manifest.ensures.1 in
-    let e = c.in_err-manifest.field-0.0 in
+pub returns-in-Err-clause-error : goal.returns-in-Err-clause-error
+returns-in-Err-clause-error c =
+    let f = c.at_input.result in
     let i = c.inputs.input-index in
-    rw (p.1, p.2) (inr (first_at IsManifest (λ (x : Input). IsBadManifest x.bytes.items e) c.args.inputs.now i
-    c.input-item.result c.inputs-test.true c.input-item.is
-    (all_manifests (take i c.args.inputs.now) c.inputs.manifests.items c.inputs.invariant)
-    (subst (λ bs. IsBadManifest bs e) c.deref.ensures.value c.in_err-manifest.ensures.error)))
+    inr (first_at IsManifest (FailsAtInput f) c.args.inputs.now i c.input-item.result c.inputs-test.true
+    c.input-item.is (all_manifests (take i c.args.inputs.now) c.inputs.manifests.items c.inputs.invariant) (
+      subst (IsBadManifest c.input-item.result.bytes.items) (sym c.at_input.ensures.error)
+          (subst (λ bs. IsBadManifest bs c.in-Err.error) c.deref.ensures.value c.in-Err.ensures.error),
+      c.at_input.ensures.origin,
+    ))
 
 pub returns-in_err-manifests-clause-error : goal.returns-in_err-manifests-clause-error
 returns-in_err-manifests-clause-error c =
     let r = err_from_is_err_and c.from_residual.result c.from_residual.ensures.1 in
-    rw (r.1, r.2) (inl refl)
+    rw r.1 (inl (subst IsMemory (sym r.2.0) refl))
 
-pub returns-in_err-push-clause-error : goal.returns-in_err-push-clause-error
-returns-in_err-push-clause-error c =
-    let r = err_from_is_err_and c.from_residual-in_err-push.result c.from_residual-in_err-push.ensures.1 in
-    rw (r.1, r.2) (inl refl)
+pub returns-in_err-push-in-Ok-clause-error : goal.returns-in_err-push-in-Ok-clause-error
+returns-in_err-push-in-Ok-clause-error c =
+    let r = err_from_is_err_and c.from_residual-in_err-push-in-Ok.result
+    c.from_residual-in_err-push-in-Ok.ensures.1 in
+    rw r.1 (inl (subst IsMemory (sym r.2.0) refl))

@@ -2,6 +2,7 @@ use Rattle.std.proofs.Common.{◌∙◌, List, ℕ, ap, inl, inr, map, option_ma
 use Rattle.std.specs.Prelude.{All}
 use Rattle.std.proofs.lemmas.Result.{err_from_is_err_and}
 use Rattle.semver.specs.Identifiers.{parts_of}
+use Rattle.edit_base.specs.Errors.{IsMemory}
 use Rattle.edit_set_version.specs.Apart.{AreApart}
 use Rattle.edit_set_version.specs.Crates.{bumps_view, project_view}
 use Rattle.edit_set_version.specs.BumpsByFolder.{HasFirstBumps}
@@ -40,7 +41,7 @@ outputs_of-requires-clause-numbers c =
 pub returns-in_err-numbers-clause-error : goal.returns-in_err-numbers-clause-error
 returns-in_err-numbers-clause-error c =
     let r = err_from_is_err_and c.from_residual.result c.from_residual.ensures.1 in
-    rw (r.1, r.2) (inl c.in_err-numbers.ensures.error)
+    rw r.1 (inl (subst IsMemory (sym r.2.0) c.in_err-numbers.ensures.error))
 
 pub plan_lines-requires-clause-apart : goal.plan_lines-requires-clause-apart
 plan_lines-requires-clause-apart c =
@@ -50,10 +51,11 @@ pub returns-in_err-check_literals-clause-error : goal.returns-in_err-check_liter
 returns-in_err-check_literals-clause-error c =
     let r = err_from_is_err_and c.from_residual-in_err-check_literals.result
     c.from_residual-in_err-check_literals.ensures.1 in
+    let f = c.in_err-check_literals.field-0.0 in
     rw (r.1, r.2) (elim c.in_err-check_literals.ensures.error [
       | inl none ↦ inl none
       | inr why ↦ inr (of_literal why.0
-          (subst (λ (bs : List Bumping). LackLiterals (bumps_view bs) c.args.inputs.now)
+          (subst (λ (bs : List Bumping). LackLiterals (bumps_view bs) c.args.inputs.now f)
           c.deref-2.ensures.value why.1))
     ])
 
@@ -62,13 +64,13 @@ returns-in_err-lines-clause-error c =
     let r = err_from_is_err_and c.from_residual-in_err-lines.result
     c.from_residual-in_err-lines.ensures.1 in
     let all = manifests (project_view c.args.project.now) in
-    let e = c.in_err-lines.field-0.0 in
+    let f = c.in_err-lines.field-0.0 in
     rw (r.1, r.2) (elim c.in_err-lines.ensures.error [
       | inl none ↦ inl none
       | inr why ↦ inr (of_requirement
           (subst (λ (bs : List Bumping). All (HasLiteral (bumps_view bs)) c.args.inputs.now)
           c.deref-2.ensures.value c.in_ok-check_literals.ensures.literals)
-          (subst (λ (bs : List Bumping). AreUnraised (bumps_view bs) all e) c.deref-3.ensures.value why))
+          (subst (λ (bs : List Bumping). AreUnraised (bumps_view bs) all f) c.deref-3.ensures.value why))
     ])
 
 pub outputs_of-requires-clause-apart : goal.outputs_of-requires-clause-apart
@@ -96,9 +98,9 @@ returns-in_err-outputs-clause-error c =
     let all = manifests (project_view c.args.project.now) in
     let rise = subst (λ (bs : List Bumping). All (AllRiseIn (bumps_view bs)) all)
     (c.deref-3.ensures.value ∙ sym c.deref-2.ensures.value) c.in_ok-lines.ensures.rise in
-    rw (r.1, r.2) (inl (c.in_err-outputs.ensures.error
+    rw r.1 (inl (subst IsMemory (sym r.2.0) (c.in_err-outputs.ensures.error
     (all_clear (bumps_view c.deref-2.result.now) all c.args.inputs.now c.in_ok-check_literals.ensures.literals
-    rise c.requires.among)))
+    rise c.requires.among))))
 
 pub returns-clause-outputs : goal.returns-clause-outputs
 returns-clause-outputs c =

@@ -43,14 +43,14 @@ returns-in_err-push_manifest-clause-error c =
     let p = err_from_is_err_and c.from_residual.result c.from_residual.ensures.1 in
     let m = member_of c.args.found in
     let root = c.args.root.now in
-    let e = c.in_err-push_manifest.field-0.0 in
+    let f = c.in_err-push_manifest.field-0.0 in
     let other : same_bytes m.path root ≡ false
     = compared m.path root c.as_str.result.now c.eq.result c.as_str.ensures.value c.eq.ensures
     ∙ c.if-eq.false in
     rw (p.1, p.2) (λ bs tells. elim (c.in_err-push_manifest.ensures.error bs tells) [
       | inl none ↦ inl none
-      | inr has ↦ inr (subst (λ ms. AreUnraised bs ms e) (sym (other_one root m other))
-          (first_here (AllRiseIn bs) (λ (n : Named). IsUnraised bs n.path n.tree e) (named_member m) [] has))
+      | inr has ↦ inr (subst (λ ms. AreUnraised bs ms f) (sym (other_one root m other))
+          (first_here (AllRiseIn bs) (λ (n : Named). IsUnraised bs n.path n.tree f) (named_member m) [] has))
     ])
 
 pub returns-clause-ok : goal.returns-clause-ok

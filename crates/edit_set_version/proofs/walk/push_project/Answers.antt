@@ -30,10 +30,10 @@ pub returns-in_err-push_manifest-clause-error : goal.returns-in_err-push_manifes
 returns-in_err-push_manifest-clause-error c =
     let p = err_from_is_err_and c.from_residual.result c.from_residual.ensures.1 in
     let project = c.args.project.now in
-    let e = c.in_err-push_manifest.field-0.0 in
+    let f = c.in_err-push_manifest.field-0.0 in
     rw (p.1, p.2) (λ bs tells. elim (c.in_err-push_manifest.ensures.error bs tells) [
       | inl none ↦ inl none
-      | inr has ↦ inr (first_here (AllRiseIn bs) (λ (m : Named). IsUnraised bs m.path m.tree e)
+      | inr has ↦ inr (first_here (AllRiseIn bs) (λ (m : Named). IsUnraised bs m.path m.tree f)
           (root_of project) (others_of project) has)
     ])
 
@@ -50,16 +50,16 @@ returns-in_err-push_members-clause-error c =
     let p = err_from_is_err_and c.from_residual-in_err-push_members.result
     c.from_residual-in_err-push_members.ensures.1 in
     let project = c.args.project.now in
-    let e = c.in_err-push_members.field-0.0 in
+    let f = c.in_err-push_members.field-0.0 in
     let given = others_given project c.as_str.result.now c.deref.result.now c.as_str.ensures.value
     c.deref.ensures.value in
     rw (p.1, p.2) (λ bs tells. elim (c.in_err-push_members.ensures.error bs tells) [
       | inl none ↦ inl none
-      | inr has ↦ inr (first_behind (AllRiseIn bs) (λ (m : Named). IsUnraised bs m.path m.tree e)
+      | inr has ↦ inr (first_behind (AllRiseIn bs) (λ (m : Named). IsUnraised bs m.path m.tree f)
           (root_of project ∷ []) (others_of project)
           (All-cons (AllRiseIn bs) (root_of project) [] (c.in_ok-push_manifest.ensures.rise bs tells)
           (All-nil (AllRiseIn bs)))
-          (subst (λ ms. AreUnraised bs ms e) given has))
+          (subst (λ ms. AreUnraised bs ms f) given has))
     ])
 
 pub returns-clause-ok : goal.returns-clause-ok

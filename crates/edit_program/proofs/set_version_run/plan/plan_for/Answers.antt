@@ -1,4 +1,4 @@
-use Rattle.std.proofs.Common.{◌∙◌, ap, subst, sym}
+use Rattle.std.proofs.Common.{◌∙◌, ap, refl, subst, sym}
 use Rattle.std.proofs.lemmas.List.Elements.{All-map}
 use Rattle.edit_base.specs.Errors.{number_of}
 use Rattle.edit_metadata.specs.Inputs.{AreInputs}
@@ -13,8 +13,8 @@ use Rattle.edit_program.specs.SetVersions.{no_rust}
 use Rattle.edit_program.proofs.CountLemmas.{versions_count}
 use Rattle.edit_program.proofs.set_version_run.plan.plan_for.Goals as goal
 
-pub plan_set_version-requires-clause-inputs : goal.plan_set_version-requires-clause-inputs
-plan_set_version-requires-clause-inputs c = (
+pub plan_versions-requires-clause-inputs : goal.plan_versions-requires-clause-inputs
+plan_versions-requires-clause-inputs c = (
   no_rust,
   subst (λ is. AreInputs no_rust (workspace_view c.args.read.now.workspace) is)
       (sym c.as_slice.ensures.value) c.requires.inputs,
@@ -38,12 +38,12 @@ returns-in-Err-clause-error c =
     let a = selection_view c.args.args.now.selection in
     let w = workspace_view c.args.read.now.workspace in
     subst (λ is. IsCauseOf t a w is c.explain_set_version.result.error) c.as_slice.ensures.value
-    (subst (λ e. IsCauseOf t a w c.as_slice.result.now e) (sym c.explain_set_version.ensures) c.in-Err.ensures.error)
+    (c.in-Err.failure, sym c.explain_set_version.ensures.same, c.in-Err.ensures.error)
 
 pub returns-in-Err-clause-counted : goal.returns-in-Err-clause-counted
 returns-in-Err-clause-counted c device =
     let t = target_of c.args.args.now.target in
     let a = selection_view c.args.args.now.selection in
     let w = workspace_view c.args.read.now.workspace in
-    versions_count t a w c.as_slice.result.now c.in-Err.error c.in-Err.ensures.error
-    (sym (ap number_of c.explain_set_version.ensures) ∙ device)
+    versions_count t a w c.as_slice.result.now c.in-Err.failure.error
+    (c.in-Err.failure, refl, c.in-Err.ensures.error) (sym (ap number_of c.explain_set_version.ensures.same) ∙ device)

@@ -4,7 +4,6 @@ use Rattle.std.specs.Prelude.{All}
 use Rattle.std.proofs.lemmas.Result.{err_from_is_err_and}
 use Rattle.semver.specs.Identifiers.{parts_of}
 use Rattle.edit_base.specs.Errors.{IsMemory}
-use Rattle.edit_base.specs.declared.errors.Error.{Error}
 use Rattle.edit_metadata.specs.Metadata.{members}
 use Rattle.edit_metadata.specs.Workspaces.{workspace_view}
 use Rattle.edit_version.specs.Laws.{IsReadable}
@@ -14,21 +13,22 @@ use Rattle.edit_set_version.specs.Chosen.{Member, missing}
 use Rattle.edit_set_version.specs.Crates.{IsReadOf, bumps_view, project_view}
 use Rattle.edit_set_version.specs.Admitted.{AreVersions}
 use Rattle.edit_set_version.specs.Plan.{IsPlan}
-use Rattle.edit_set_version.specs.PlanCauses.{IsManifestError}
+use Rattle.edit_set_version.specs.PlanCauses.{IsManifestError, IsMissing}
 use Rattle.edit_set_version.specs.PlanLines.{Reported, lines_of, shared_lines}
-use Rattle.edit_set_version.specs.PlanRefused.{IsCauseOf, IsInputClearBy}
-use Rattle.edit_set_version.specs.PlanRefused.IsCauseOf.{manifest as of_manifest, memory as of_memory, no_manifest as of_input, no_package as of_package, project as of_project}
+use Rattle.edit_set_version.specs.PlanRefused.{IsFailureOf, IsInputClearBy, unknown}
+use Rattle.edit_set_version.specs.PlanRefused.IsFailureOf.{manifest as of_manifest, memory as of_memory, no_manifest as of_input, no_package as of_package, project as of_project}
 use Rattle.edit_set_version.specs.Planned.{HasOutputsBy, OutputsInOrder, has_lines, plan_changes_view, plan_lines_view}
 use Rattle.edit_set_version.specs.Projects.{HasProject}
 use Rattle.edit_set_version.specs.Selections.{selection_view}
 use Rattle.edit_set_version.specs.SetVersioned.{Bump, bumps, workspace_current, workspace_next}
 use Rattle.edit_set_version.specs.Written.{HasSharedVersion}
+use Rattle.edit_set_version.specs.declared.failure.VersionFailure.{VersionFailure}
 use Rattle.edit_set_version.specs.declared.plan.SetVersionPlan.{SetVersionPlan}
 use Rattle.edit_set_version.proofs.ApartBumps.{bumps_apart}
 use Rattle.edit_set_version.proofs.InputManifests.{inputs_among}
 use Rattle.edit_set_version.proofs.InputPaths.{inputs_apart}
 use Rattle.edit_set_version.proofs.PlanLemmas.{all_admitted, all_chosen, clear_given, lines_for, member_names_are, outputs_given, tells_shared, where_all, where_err}
-use Rattle.edit_set_version.proofs.planned.plan_set_version.Goals as goal
+use Rattle.edit_set_version.proofs.planned.plan_versions.Goals as goal
 
 pub returns-in_err-manifests-clause-error : goal.returns-in_err-manifests-clause-error
 returns-in_err-manifests-clause-error c =
@@ -128,15 +128,16 @@ returns-clause-error c =
     let is = c.args.inputs.now in
     let p = project_view c.in_ok-project.project in
     let bs = bumps_view c.in_ok-versions.versions.bumps.items in
-    where_err c.plan_with.result (λ (e : Error). IsMemory e ⊎ IsManifestError bs is p e) (IsCauseOf t a w is)
-    (λ e why. elim why [
+    where_err c.plan_with.result (λ (f : VersionFailure). IsMemory f.error ⊎ IsManifestError bs is p f)
+    (IsFailureOf t a w is)
+    (λ f why. elim why [
       | inl none ↦ of_memory none
       | inr fault ↦ of_manifest c.in_ok-check_names.ensures.found p c.in_ok-project.ensures.ok
           (record {
             excluded = c.in_ok-versions.ensures.excluded;
             versions = c.in_ok-versions.ensures.bumpable;
           })
-          (subst (λ (cs : List Bump). IsManifestError cs is p e) c.in_ok-versions.ensures.bumps fault)
+          (subst (λ (cs : List Bump). IsManifestError cs is p f) c.in_ok-versions.ensures.bumps fault)
     ])
     c.plan_with.ensures.error
 
@@ -150,16 +151,17 @@ plan_with-requires-clause-among c =
 pub returns-in_err-check_names-clause-error : goal.returns-in_err-check_names-clause-error
 returns-in_err-check_names-clause-error c =
     let r = err_from_is_err_and c.from_residual.result c.from_residual.ensures.1 in
-    rw (r.1, r.2) (elim c.in_err-check_names.ensures.error [
-      | inl none ↦ of_memory none
-      | inr why ↦ of_package why
+    let names = unknown (selection_view c.args.selection.now) (workspace_view c.args.workspace.now) in
+    rw r.1 (elim c.in_err-check_names.ensures.error [
+      | inl none ↦ of_memory (subst IsMemory (sym r.2.0) none)
+      | inr why ↦ of_package (subst (IsMissing names) (sym r.2.0) why)
     ])
 
 pub returns-in_err-project-clause-error : goal.returns-in_err-project-clause-error
 returns-in_err-project-clause-error c =
     let r = err_from_is_err_and c.from_residual-in_err-project.result
     c.from_residual-in_err-project.ensures.1 in
-    rw (r.1, r.2) (of_memory c.in_err-project.ensures.error)
+    rw r.1 (of_memory (subst IsMemory (sym r.2.0) c.in_err-project.ensures.error))
 
 pub project_of-requires-clause-inputs : goal.project_of-requires-clause-inputs
 project_of-requires-clause-inputs c = c.requires.inputs
