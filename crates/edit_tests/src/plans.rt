@@ -1,3 +1,4 @@
-//! A test of plans, by the public calls of `cargo_edit`.
+//! Tests of plans, by public calls.
 
 mod inputs;
+mod version_failures;
