@@ -6,6 +6,7 @@ mod calls_file;
 mod delivery;
 mod held_back_notes;
 mod hidden_rows_note;
+mod messages;
 mod name_lists;
 mod notes;
 mod plan_checks;

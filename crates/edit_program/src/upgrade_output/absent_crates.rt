@@ -1,19 +1,14 @@
 //! The crates that an index does not have.
-ghost use Rattle.std.specs.Prelude.{◌≡◌, ◌⊎◌, ◌++◌, IfErr, IfOk, OnOk, map, string_bytes};
-ghost use Rattle.std.specs.Io.KnownBytes.{Appends};
-ghost use Rattle.edit_base.specs.Errors.{IsMemory};
-ghost use Rattle.edit_base.specs.declared.errors.Error.TheVariants.{Output};
+ghost use Rattle.std.specs.Prelude.{◌≡◌, ◌++◌, IfOk, OnOk, map, string_bytes};
 ghost use Rattle.edit_metadata.specs.Reading.{holds};
 ghost use Rattle.edit_upgrade.specs.Names.{HasNames};
 ghost use Rattle.edit_upgrade.specs.UpdateCalls.{is_among};
 ghost use Rattle.edit_program.specs.Absent as spec;
 
-use crate::upgrade_output::name_lists::{Noun, print_list};
-use edit_base::CargoResult;
+use crate::upgrade_output::name_lists::{Noun, push_list};
 use edit_upgrade::{Look, Options, UpgradePlan};
 use std::alloc::{AllocError, Global};
 use std::collections::BTreeSet;
-use std::io;
 
 const ABSENT: &str = "no index entry was found";
 
@@ -69,18 +64,17 @@ fn absent_names(
     Ok(names)
 }
 
-/// Prints the note about crates that were not found in the index, where there are any. Offline nothing is
-/// printed: the tool that fills the index reports the missing entries then.
-pub(crate) fn print_absent<E: io::Write>(
+/// Appends the note about crates that were not found in the index, if there are any. Offline nothing is
+/// appended: the tool that fills the index reports the missing entries then.
+pub(crate) fn push_absent_note(
     alloc: Global,
     plan: &UpgradePlan,
     options: &Options,
     offline: bool,
-    err: &mut E,
-) -> CargoResult<()>
-    ensures text { OnOk result (Appends (E.contents err.old) (E.contents err.new)
-        (spec.absent_note plan.now options.now offline)) }
-    ensures error { IfErr result (λ e. IsMemory e ⊎ (e ≡ Output)) }
+    text: &mut String,
+) -> Result<(), AllocError>
+    ensures text { OnOk result (string_bytes text.new
+        ≡ string_bytes text.old ++ spec.absent_note plan.now options.now offline) }
 {
     if offline {
         return Ok(());
@@ -88,5 +82,5 @@ pub(crate) fn print_absent<E: io::Write>(
     let exclude = options.exclude.as_slice();
     let lookups = plan.looks.as_slice();
     let names = absent_names(alloc, exclude, lookups)?;
-    print_list(alloc, ABSENT, Noun::Crate, names.as_slice(), err)
+    push_list(alloc, ABSENT, Noun::Crate, names.as_slice(), text)
 }

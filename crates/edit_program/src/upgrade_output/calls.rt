@@ -1,9 +1,7 @@
 //! The calls of `cargo update` that follow an upgrade, as they are printed.
-ghost use Rattle.std.specs.Prelude.{◌≡◌, ◌⊎◌, IfErr, IfOk, OnOk, codes, map, option_map, string_bytes, true};
-ghost use Rattle.std.specs.Io.KnownBytes.{Appends};
+ghost use Rattle.std.specs.Prelude.{◌≡◌, ◌⊎◌, ◌++◌, IfErr, IfOk, OnOk, codes, map, option_map, string_bytes, true};
 ghost use Rattle.std.specs.List.{join_by};
 ghost use Rattle.edit_base.specs.Errors.{IsMemory};
-ghost use Rattle.edit_base.specs.declared.errors.Error.TheVariants.{Output};
 ghost use Rattle.edit_lock.specs.Views.{lock_view};
 ghost use Rattle.edit_metadata.specs.Workspaces.{workspace_view};
 ghost use Rattle.edit_upgrade.specs.ParsedOptions.{call_options, is_due};
@@ -12,14 +10,13 @@ ghost use Rattle.edit_upgrade.specs.Views.{calls_view, args_view};
 ghost use Rattle.edit_program.specs.Delivery.{calls_against, calls_of};
 ghost use Rattle.edit_program.specs.StderrText.{call_status, call_statuses};
 
+use crate::upgrade_output::messages::push_status;
 use edit_base::CargoResult;
 use edit_lock::{Lock, adapt_calls};
 use edit_metadata::Workspace;
-use edit_report::shell_status;
 use edit_upgrade::update::update_calls;
 use edit_upgrade::{Options, UpgradePlan};
 use std::alloc::{AllocError, Global};
-use std::io;
 
 /// The calls that follow a plan: none without a workspace.
 pub(crate) fn calls_of(
@@ -63,36 +60,22 @@ fn join_args(alloc: Global, args: &[String]) -> Result<String, AllocError>
     args.join(alloc, " ")
 }
 
-/// Prints a call.
-fn print_call<E: io::Write>(alloc: Global, call: &[String], err: &mut E) -> CargoResult<()>
-    ensures text { OnOk result (Appends (E.contents err.old) (E.contents err.new)
-        (call_status (args_view call.now))) }
-    ensures error { IfErr result (λ e. IsMemory e ⊎ (e ≡ Output)) }
+/// Appends the status line of a call.
+fn push_call(alloc: Global, call: &[String], text: &mut String) -> Result<(), AllocError>
+    ensures { OnOk result (string_bytes text.new
+        ≡ string_bytes text.old ++ call_status (args_view call.now)) }
 {
     let args = join_args(alloc, call)?;
-    shell_status(err, "Run", args.as_str())
-}
-
-/// Prints calls, each as a status line with its arguments.
-fn print_calls<E: io::Write>(alloc: Global, calls: &[Vec<String>], err: &mut E) -> CargoResult<()>
-    ensures text { OnOk result (Appends (E.contents err.old) (E.contents err.new)
-        (call_statuses (calls_view calls.now))) }
-    ensures error { IfErr result (λ e. IsMemory e ⊎ (e ≡ Output)) }
-{
-    for call in calls {
-        print_call(alloc, call.as_slice(), err)?;
-    }
-    Ok(())
+    push_status(alloc, "Run", args.as_str(), text)
 }
 
 /// The calls as text: for each a status line with its arguments.
-pub(crate) fn render_calls(alloc: Global, calls: &[Vec<String>]) -> Result<Vec<u8>, AllocError>
-    ensures { IfOk result (λ text. text.items ≡ call_statuses (calls_view calls.now)) }
+pub(crate) fn statuses_text(alloc: Global, calls: &[Vec<String>]) -> Result<String, AllocError>
+    ensures { IfOk result (λ s. string_bytes s ≡ call_statuses (calls_view calls.now)) }
 {
-    let mut text = Vec::new(alloc);
-    // (only want of memory stops a write to a vector)
-    match print_calls(alloc, calls, &mut text) {
-        Ok(()) => Ok(text),
-        Err(_) => Err(AllocError),
+    let mut text = String::new(alloc);
+    for call in calls {
+        push_call(alloc, call.as_slice(), &mut text)?;
     }
+    Ok(text)
 }

@@ -9,12 +9,12 @@ ghost use Rattle.edit_program.specs.Delivery.{delivery_of};
 ghost use Rattle.edit_program.specs.StderrText.{AreWarningsInOrder, upgrade_stderr_text};
 ghost use Rattle.edit_program.specs.Tables.{AreInOrder};
 
-use crate::upgrade_output::calls::{calls_against, calls_of, render_calls};
+use crate::upgrade_output::calls::{calls_against, calls_of, statuses_text};
 use crate::upgrade_output::calls_file::calls_outputs;
 use crate::upgrade_output::plan_checks::{
     check_lock, missing_names_error, upgrade_outputs_to_write,
 };
-use crate::upgrade_output::plan_execution::{carry_out, conclude, render_notes};
+use crate::upgrade_output::plan_execution::{carry_out, conclude, notes_text};
 use crate::upgrade_output::plan_output::print_plan;
 use crate::upgrade_output::task::DeliveryTask;
 use edit_steps::RunResult;
@@ -59,13 +59,13 @@ pub fn deliver<S: Store, O: io::Write, E: io::Write>(
     let file = outputs.as_slice();
     print_plan(alloc, task, calls, out, err)?;
     check_lock(task.options, task.plan)?;
-    let statuses = render_calls(alloc, calls)?;
-    let notes = render_notes(alloc, task)?;
+    let statuses = statuses_text(alloc, calls)?;
+    let notes = notes_text(alloc, task)?;
     let missing = missing_names_error(alloc, task.plan)?;
     carry_out(
         alloc,
         upgrade_outputs_to_write(task.options, task.plan),
-        statuses.as_slice(),
+        statuses.as_str(),
         file,
         files,
         err,

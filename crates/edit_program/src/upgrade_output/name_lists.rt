@@ -1,15 +1,10 @@
 //! Notes that list names.
-ghost use Rattle.std.specs.Prelude.{◌≡◌, ◌⊎◌, IfErr, IfOk, OnOk, codes, map, string_bytes};
-ghost use Rattle.std.specs.Io.KnownBytes.{Appends};
+ghost use Rattle.std.specs.Prelude.{◌≡◌, ◌++◌, IfOk, OnOk, codes, map, string_bytes};
 ghost use Rattle.std.specs.List.{join_by};
-ghost use Rattle.edit_base.specs.Errors.{IsMemory};
-ghost use Rattle.edit_base.specs.declared.errors.Error.TheVariants.{Output};
 ghost use Rattle.edit_program.specs.NameLists as spec;
 
-use edit_base::CargoResult;
-use edit_report::shell_note;
+use crate::upgrade_output::messages::push_note;
 use std::alloc::{AllocError, Global};
-use std::io;
 
 /// The greatest number of names in a note.
 const MOST_NAMES: usize = 5;
@@ -74,21 +69,20 @@ fn list_text<'a>(
     format!(in alloc; "{what} for {count} {noun}: {list}")
 }
 
-/// Prints a note with names, where there are any: what it says, of how many, and the names.
-pub(crate) fn print_list<E: io::Write>(
+/// Appends a note with names, if there are any: what it says, of how many, and the names.
+pub(crate) fn push_list(
     alloc: Global,
     what: &str,
     noun: Noun,
     names: &[String],
-    err: &mut E,
-) -> CargoResult<()>
-    ensures text { OnOk result (Appends (E.contents err.old) (E.contents err.new)
-        (spec.list_note what.now noun (map string_bytes names.now))) }
-    ensures error { IfErr result (λ e. IsMemory e ⊎ (e ≡ Output)) }
+    text: &mut String,
+) -> Result<(), AllocError>
+    ensures text { OnOk result (string_bytes text.new
+        ≡ string_bytes text.old ++ spec.list_note what.now noun (map string_bytes names.now)) }
 {
     if names.is_empty() {
         return Ok(());
     }
-    let text = list_text(alloc, what, noun, names)?;
-    shell_note(err, text.as_str())
+    let message = list_text(alloc, what, noun, names)?;
+    push_note(alloc, message.as_str(), text)
 }

@@ -12,7 +12,7 @@ ghost use Rattle.edit_program.specs.Delivered.{AreBothWritten, HaveStopped};
 ghost use Rattle.edit_program.specs.Delivery.{delivery_of};
 ghost use Rattle.edit_program.specs.StderrText.{notes};
 
-use crate::upgrade_output::notes::print_notes;
+use crate::upgrade_output::notes::push_notes;
 use crate::upgrade_output::task::DeliveryTask;
 use edit_base::{CargoResult, Error};
 use edit_report::Output;
@@ -29,7 +29,7 @@ use std::io::Write;
 pub(crate) fn carry_out<S: Store, E: io::Write>(
     alloc: Global,
     outputs: &[Output],
-    statuses: &[u8],
+    statuses: &str,
     file: &[Output],
     files: &mut S,
     err: &mut E,
@@ -49,34 +49,37 @@ pub(crate) fn carry_out<S: Store, E: io::Write>(
 {
     stage_outputs(alloc, file, files)?;
     write_outputs(alloc, outputs, files)?;
-    if err.write_all(statuses).is_err() {
+    if err.write_all(statuses.as_bytes()).is_err() {
         files.unstage(alloc);
         return Err(RunError::from(Error::Output));
     }
     write_outputs(alloc, file, files)
 }
 
-/// Prints the notes on the crates that the policy holds, and on the plan.
-fn print_end<E: io::Write>(alloc: Global, task: &DeliveryTask<'_>, err: &mut E) -> CargoResult<()>
-    ensures text { OnOk result (Appends (E.contents err.old) (E.contents err.new)
-        (hold_notes task.now.plan.now.rows.items task.now.crates.now ++ notes (delivery_of task.now))) }
-    ensures error { IfErr result (λ e. IsMemory e ⊎ (e ≡ Unwritten)) }
-{
-    write_holds(alloc, task.plan.rows.as_slice(), task.crates, err)?;
-    print_notes(alloc, task, err)
-}
-
-/// The notes on the crates that the policy holds, and on the plan, as text.
-pub(crate) fn render_notes(alloc: Global, task: &DeliveryTask<'_>) -> Result<Vec<u8>, AllocError>
+/// The notes on the crates that the policy holds, as text.
+fn holds_text(alloc: Global, task: &DeliveryTask<'_>) -> Result<Vec<u8>, AllocError>
     ensures { IfOk result (λ text. text.items
-        ≡ hold_notes task.now.plan.now.rows.items task.now.crates.now ++ notes (delivery_of task.now)) }
+        ≡ hold_notes task.now.plan.now.rows.items task.now.crates.now) }
 {
     let mut text = Vec::new(alloc);
     // (only want of memory stops a write to a vector)
-    match print_end(alloc, task, &mut text) {
+    match write_holds(alloc, task.plan.rows.as_slice(), task.crates, &mut text) {
         Ok(()) => Ok(text),
         Err(_) => Err(AllocError),
     }
+}
+
+/// The notes on the crates that the policy holds, and on the plan, as text.
+pub(crate) fn notes_text(alloc: Global, task: &DeliveryTask<'_>) -> CargoResult<Vec<u8>>
+    ensures text { IfOk result (λ text. text.items
+        ≡ hold_notes task.now.plan.now.rows.items task.now.crates.now ++ notes (delivery_of task.now)) }
+    ensures error { IfErr result IsMemory }
+{
+    let mut text = holds_text(alloc, task)?;
+    let mut notes = String::new(alloc);
+    push_notes(alloc, task, &mut notes)?;
+    text.extend_from_slice(notes.as_bytes())?;
+    Ok(text)
 }
 
 /// Fails for selected names that no entry has, where this error is given, else prints the notes.
