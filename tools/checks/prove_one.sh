@@ -1,5 +1,6 @@
 #!/usr/bin/env bash
-# prove_one.sh   tools/prove_one proves a function over the sources of the libraries below, and not one whose body is wrong.
+# prove_one.sh   tools/prove_one proves a function over the sources of the libraries below, or over built ones, and not one whose body
+# is wrong.
 set -eu -o pipefail
 copy=$(mktemp -d)
 trap 'rm -rf "$copy"' EXIT
@@ -14,6 +15,9 @@ git init -q
 sed -i -E '/^(edit_base|edit_store|edit_terminal):/!d' crates.txt
 tools/prove_one edit_store memory_store::MemoryStore::new > said
 grep '^fn edit_store::memory_store::MemoryStore::new: proved$' said
+tools/prove_one --built edit_terminal characters::is_within > said
 sed -i 's/    first <= code && code <= last/    first <= code/' crates/edit_terminal/src/characters.rt
 ! tools/prove_one edit_terminal characters::is_within > said
 tail -n 1 said | grep '^only=1 proved=0$'
+! tools/prove_one --built edit_terminal characters::is_within > said
+grep '^fn edit_terminal::characters::is_within: no proof' said
