@@ -72,9 +72,9 @@ pub fn explain_set_version(
     selection: &Selection,
     workspace: &Workspace,
 ) -> RunError
-    ensures same { result.error ≡ failure.error }
+    ensures same { result.error ≡ failure.entry.error }
     // without a place where memory ran out
-    ensures place { IfSome result.place (λ s. IsVersionPlaceOf failure (string_bytes s)) }
+    ensures place { IfSome result.place (λ s. IsVersionPlaceOf failure.entry (string_bytes s)) }
 {
     let VersionFailure { error, origin } = failure;
     let Some(origin) = origin else {
