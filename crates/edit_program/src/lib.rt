@@ -4,6 +4,7 @@
 mod args_error;
 mod cargo_builtin;
 mod commands;
+mod diffs;
 mod faults;
 mod lock_planner;
 mod lookup_lines;

@@ -7,4 +7,4 @@ mod lines;
 mod names;
 pub mod unified;
 
-pub use unified::{diff_text, write_diff};
+pub use unified::diff_text;

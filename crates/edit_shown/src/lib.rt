@@ -15,7 +15,7 @@ mod presentation;
 
 pub use annotations::print_annotations;
 pub use changes::{print_changes, print_version_changes};
-pub use diffs::print_diffs;
+pub use diffs::{next_diff, other_outputs};
 pub use held_back::{HeldBack, list_held_back};
 pub use markdown::print_markdown;
 pub use messages::print_messages;

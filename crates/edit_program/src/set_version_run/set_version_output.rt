@@ -9,12 +9,13 @@ ghost use Rattle.edit_shown.specs.Messages.{changes};
 ghost use Rattle.edit_shown.specs.VersionChanges.{version_changes};
 ghost use Rattle.edit_program.specs.Printed.{diffs_if, messages_in, set_version_stdout_text, statuses, statuses_in, warning_if};
 
+use crate::diffs::print_diffs;
 use crate::set_version_run::set_version_args::SetVersionArgs;
 use edit_base::CargoResult;
 use edit_metadata::Input;
 use edit_report::{shell_status, shell_warn};
 use edit_set_version::{SetVersionPlan, VersionChange};
-use edit_shown::{MessageFormat, print_changes, print_diffs, print_version_changes};
+use edit_shown::{MessageFormat, print_changes, print_version_changes};
 use std::alloc::Global;
 use std::io;
 

@@ -8,13 +8,14 @@ ghost use Rattle.edit_program.specs.StderrText.{AreWarningsInOrder, input_report
 ghost use Rattle.edit_program.specs.PrintedPlan.{diffs_if, messages_as};
 ghost use Rattle.edit_program.specs.Tables.{AreInOrder, tables};
 
+use crate::diffs::print_diffs;
 use crate::upgrade_output::reports::print_reports;
 use crate::upgrade_output::task::DeliveryTask;
 use edit_base::CargoResult;
 use edit_metadata::Input;
 use edit_report::Output;
 use edit_shown::{
-    MessageFormat, print_annotations, print_diffs, print_markdown, print_messages, print_numbered,
+    MessageFormat, print_annotations, print_markdown, print_messages, print_numbered,
 };
 use std::alloc::Global;
 use std::io;

@@ -1,8 +1,6 @@
 //! A unified diff of two texts of a file.
-ghost use Rattle.std.specs.Prelude.{◌≡◌, ◌⊎◌, ◌++◌, IfErr, IfOk, OnOk};
-ghost use Rattle.std.specs.Io.KnownBytes.{Appends};
+ghost use Rattle.std.specs.Prelude.{◌≡◌, ◌++◌, IfErr, IfOk, OnOk};
 ghost use Rattle.edit_base.specs.Errors.{IsMemory};
-ghost use Rattle.edit_base.specs.declared.errors.Error.TheVariants.{Output};
 ghost use Rattle.edit_shown.specs.Lines.{lines_of};
 ghost use Rattle.edit_shown.specs.LineKinds.{compare_lines};
 ghost use Rattle.edit_shown.specs.Unified as spec;
@@ -11,9 +9,8 @@ use crate::diff::hunks::push_parts;
 use crate::diff::line_diff::compare_lines;
 use crate::diff::lines::lines_of;
 use crate::diff::names::push_name;
-use edit_base::{CargoResult, Error};
+use edit_base::CargoResult;
 use std::alloc::{AllocError, Global};
-use std::io;
 
 /// Appends the two lines that name a file.
 fn push_names(text: &mut Vec<u8>, path: &str) -> Result<(), AllocError>
@@ -50,23 +47,4 @@ pub fn diff_text(alloc: Global, path: &str, old: &[u8], new: &[u8]) -> CargoResu
     push_names(&mut text, path)?;
     push_changes(alloc, &mut text, old, new)?;
     Ok(text)
-}
-
-/// Writes the unified diff of two texts of a file.
-pub fn write_diff<W: io::Write>(
-    alloc: Global,
-    out: &mut W,
-    path: &str,
-    old: &[u8],
-    new: &[u8],
-) -> CargoResult<()>
-    ensures bytes { OnOk result (Appends (W.contents out.old) (W.contents out.new)
-        (spec.diff_text path.now old.now new.now)) }
-    ensures error { IfErr result (λ e. IsMemory e ⊎ (e ≡ Output)) }
-{
-    let text = diff_text(alloc, path, old, new)?;
-    match out.write_all(&text) {
-        Ok(()) => Ok(()),
-        Err(_) => Err(Error::Output),
-    }
 }

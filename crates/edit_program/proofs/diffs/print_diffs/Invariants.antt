@@ -1,7 +1,7 @@
 use Rattle.std.proofs.Common.{ℕ, List, Option, drop}
 use Rattle.std.specs.Io.KnownBytes.{Appends}
 use Rattle.edit_shown.specs.Diffs.{diffs}
-use Rattle.edit_shown.proofs.diffs.print_diffs.Given as goal
+use Rattle.edit_program.proofs.diffs.print_diffs.Given as goal
 
 -- with the changes of the inputs that are left, all of them are printed
 abbrev pub invariant-loop-input : goal.invariant-loop-input
