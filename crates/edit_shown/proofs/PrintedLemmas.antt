@@ -1,11 +1,9 @@
 -- Messages that are printed one after the other.
-use Rattle.std.proofs.Common.{◌≡◌, ◌∙◌, ℕ, ◌<◌, ◌+◌, List, [], ◌++◌, Option, ap, get_or, length, map, subst, sym, take}
-use Rattle.std.specs.Prelude.{String}
+use Rattle.std.proofs.Common.{◌≡◌, ◌∙◌, ℕ, ◌<◌, ◌+◌, List, [], ◌++◌, Option, ap, get_or, length, subst, sym, take}
 use Rattle.std.specs.Io.KnownBytes.{Appends}
 use Rattle.std.specs.List.{flat_map}
-use Rattle.std.specs.declared.alloc.Global.{Global}
 use Rattle.std.proofs.KnownBytes.{Appends-trans}
-use Rattle.std.proofs.lemmas.List.{flat_map_more, map_more, take_more}
+use Rattle.std.proofs.lemmas.List.{flat_map_more, take_more}
 use Rattle.edit_upgrade.specs.declared.decision.options.Options.{Options}
 use Rattle.edit_metadata.specs.declared.input.Input.{Input}
 use Rattle.edit_report.specs.declared.output.Output.{Output}
@@ -13,7 +11,7 @@ use Rattle.edit_report.specs.declared.row.Row.{Row}
 use Rattle.edit_upgrade.specs.declared.upgrade.UpgradePlan.{UpgradePlan}
 use Rattle.edit_upgrade.specs.declared.upgrade.Warning.{Warning}
 use Rattle.edit_shown.specs.HeldBack.{held_back}
-use Rattle.edit_shown.specs.Messages.{change_message, changes, file_message, held_back_message, line_texts, messages, row_message, summary_message, warning_message}
+use Rattle.edit_shown.specs.Messages.{file_message, held_back_message, messages, row_message, summary_message, warning_message}
 
 -- a stream that has the texts of so many entries has those of one more
 pub printed_more : {A : Type 0} (show : A → List ℕ) (xs : List A) (i : ℕ) (x : A) (a b c : Option (List ℕ))
@@ -24,19 +22,6 @@ printed_more show xs i x a b c within is before one =
     (ap (λ y. flat_map show (take i xs) ++ show y) is
     ∙ flat_map_more show [] (take i xs) (get_or xs i x)
     ∙ sym (ap (flat_map show) (take_more xs i x within)))
-    (Appends-trans a b c _ _ before one)
-
--- and so with the lines of new versions
-pub changes_more : (lines : List (String Global × String Global)) (i : ℕ)
-    (line : String Global × String Global) (a b c : Option (List ℕ)) → i < length lines
-    → line ≡ get_or lines i line → Appends a b (changes (map line_texts (take i lines)))
-    → Appends b c (change_message (line_texts line))
-    → Appends a c (changes (map line_texts (take (i + 1) lines)))
-changes_more lines i line a b c within is before one =
-    subst (Appends a c)
-    (ap (λ l. changes (map line_texts (take i lines)) ++ change_message (line_texts l)) is
-    ∙ flat_map_more change_message [] (map line_texts (take i lines)) (line_texts (get_or lines i line))
-    ∙ sym (ap changes (map_more line_texts lines i line within)))
     (Appends-trans a b c _ _ before one)
 
 -- an upgrade, from its parts

@@ -14,7 +14,7 @@ mod paths;
 mod presentation;
 
 pub use annotations::print_annotations;
-pub use changes::{print_changes, print_version_changes};
+pub use changes::{push_changes, push_version_changes};
 pub use diffs::{next_diff, other_outputs};
 pub use held_back::{HeldBack, list_held_back};
 pub use markdown::print_markdown;

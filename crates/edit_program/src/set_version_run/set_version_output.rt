@@ -1,5 +1,5 @@
 //! What `set-version` prints.
-ghost use Rattle.std.specs.Prelude.{◌≡◌, ◌⊎◌, ◌++◌, IfErr, OnOk, map};
+ghost use Rattle.std.specs.Prelude.{◌≡◌, ◌⊎◌, ◌++◌, IfErr, IfOk, OnOk, map, string_bytes};
 ghost use Rattle.std.specs.Io.KnownBytes.{Appends};
 ghost use Rattle.edit_base.specs.Errors.{IsMemory};
 ghost use Rattle.edit_base.specs.declared.errors.Error.TheVariants.{Output};
@@ -13,9 +13,9 @@ use crate::diffs::print_diffs;
 use crate::set_version_run::set_version_args::SetVersionArgs;
 use edit_base::CargoResult;
 use edit_metadata::Input;
-use edit_report::{shell_status, shell_warn};
+use edit_report::{shell_status, shell_warn, shell_write_stdout};
 use edit_set_version::{SetVersionPlan, VersionChange};
-use edit_shown::{MessageFormat, print_changes, print_version_changes};
+use edit_shown::{MessageFormat, push_changes, push_version_changes};
 use std::alloc::Global;
 use std::io;
 
@@ -44,6 +44,22 @@ fn print_lines<E: io::Write>(lines: &[(String, String)], err: &mut E) -> CargoRe
     Ok(())
 }
 
+/// The lines of a plan as JSON messages, and what they say in parts.
+fn messages_text(
+    alloc: Global,
+    lines: &[(String, String)],
+    parts: &[VersionChange],
+) -> CargoResult<String>
+    ensures text { IfOk result (λ s. string_bytes s
+        ≡ changes (map report_line_view lines.now) ++ version_changes parts.now) }
+    ensures error { IfErr result IsMemory }
+{
+    let mut text = String::new(alloc);
+    push_changes(alloc, lines, &mut text)?;
+    push_version_changes(alloc, parts, &mut text)?;
+    Ok(text)
+}
+
 /// Prints the lines of a plan as JSON messages, and what they say in parts.
 fn print_messages<O: io::Write>(
     alloc: Global,
@@ -55,8 +71,8 @@ fn print_messages<O: io::Write>(
         (changes (map report_line_view lines.now) ++ version_changes parts.now)) }
     ensures error { IfErr result (λ e. IsMemory e ⊎ (e ≡ Output)) }
 {
-    print_changes(alloc, lines, out)?;
-    print_version_changes(alloc, parts, out)
+    let text = messages_text(alloc, lines, parts)?;
+    shell_write_stdout(out, text.as_str())
 }
 
 /// Prints the lines of a plan: as status lines, or as JSON messages on standard output, with what they say
