@@ -1,6 +1,6 @@
 pub mod DiffLemmas
 pub mod PathLemmas
-pub mod PrintedLemmas
+pub mod MessageLemmas
 pub mod SummaryLemmas
 pub mod UnifiedLemmas
 pub mod LineLaws

@@ -1,13 +1,11 @@
 -- Lines with the same cells as one row of a table.
-use Rattle.std.proofs.Common.{◌≡◌, ◌∙◌, ℕ, ◌<◌, ◌≤◌, ◌+◌, List, [], ◌∷◌, ◌++◌, Bool, true, false, Option, Some, None, ap, append-nil, arith, get_or, length, map, refl, subst, sym, take}
+use Rattle.std.proofs.Common.{◌≡◌, ◌∙◌, ℕ, ◌<◌, ◌≤◌, ◌+◌, List, [], ◌∷◌, ◌++◌, Bool, true, false, Option, Some, None, ap, append_assoc, append-nil, arith, get_or, length, map, refl, subst, sym, take}
 use Rattle.std.specs.Prelude.{◌||◌, Vec, filter, if◌then◌else◌, not, string_bytes}
-use Rattle.std.specs.Io.KnownBytes.{Appends}
 use Rattle.std.specs.List.{flat_map, join_by, list_any}
 use Rattle.std.specs.Map.{update}
 use Rattle.std.specs.Option.{option_map_or}
 use Rattle.std.specs.Str.{bytes_eq}
 use Rattle.std.specs.declared.alloc.Global.{Global}
-use Rattle.std.proofs.KnownBytes.{Appends-trans}
 use Rattle.std.proofs.lemmas.List.{map_more, take_all}
 use Rattle.std.proofs.lemmas.List.Elements.{filter-append}
 use Rattle.std.proofs.lemmas.List.Folds.{flat_map-map, list_any-append, list_any_at}
@@ -139,22 +137,24 @@ texts_more lines i line within at =
     map_more (λ l. string_bytes l.cells) lines i line within
     ∙ ap (λ (l : MarkdownLine). texts_of (take i lines) ++ string_bytes l.cells ∷ []) (sym at)
 
--- a stream that has the rows of so many lines has those of one more
+-- a text that has the rows of so many lines has those of one more
 pub rows_next : (inputs : List Input) (lines : List MarkdownLine) (i : ℕ) (line : MarkdownLine)
-    (all found : Option (Vec ℕ Global)) (a b c : Option (List ℕ)) → i < length lines
+    (all found : Option (Vec ℕ Global)) (a b c : List ℕ) → i < length lines
     → line ≡ get_or lines i line
     → found ≡ (if has_text (string_bytes line.cells) (texts_of (take i lines)) then None else all)
     → option_map_or (λ g. g.items) all [] ≡ inputs_of (map line_view lines) (string_bytes line.cells)
-    → Appends a b (rows_of inputs (map line_view lines) (texts_of (take i lines)))
-    → Appends b c (option_map_or (λ g. table_row inputs (string_bytes line.cells) g.items) found [])
-    → Appends a c (rows_of inputs (map line_view lines) (texts_of (take (i + 1) lines)))
+    → b ≡ a ++ rows_of inputs (map line_view lines) (texts_of (take i lines))
+    → c ≡ b ++ option_map_or (λ g. table_row inputs (string_bytes line.cells) g.items) found []
+    → c ≡ a ++ rows_of inputs (map line_view lines) (texts_of (take (i + 1) lines))
 rows_next inputs lines i line all found a b c within at is own before one =
     let cells = string_bytes line.cells in
-    subst (Appends a c)
+    let row = option_map_or (λ g. table_row inputs cells g.items) found [] in
+    one ∙ ap (λ t. t ++ row) before
+    ∙ append_assoc a (rows_of inputs (map line_view lines) (texts_of (take i lines))) row
+    ∙ ap (λ rows. a ++ rows)
     (row_next inputs (map line_view lines) (texts_of (take i lines)) cells all found is own
     (some_input lines i line within at)
     ∙ sym (ap (rows_of inputs (map line_view lines)) (texts_more lines i line within at)))
-    (Appends-trans a b c _ _ before one)
 
 -- a map without the cells of so many lines, and then without those of one more
 pub left_more : {X : Type 0} (lines : List MarkdownLine) (i : ℕ) (line : MarkdownLine)

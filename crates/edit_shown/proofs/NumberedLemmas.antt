@@ -1,8 +1,6 @@
 -- The rows that change, numbered one after the other.
-use Rattle.std.proofs.Common.{◌≡◌, ◌∙◌, ℕ, ◌<◌, ◌+◌, Bool, true, false, List, [], ◌∷◌, ◌++◌, Option, ap, append_assoc, append-nil, arith, cond, get_or, length, subst, suc, sym, take}
+use Rattle.std.proofs.Common.{◌≡◌, ◌∙◌, ℕ, ◌<◌, ◌+◌, Bool, true, false, List, [], ◌∷◌, ◌++◌, ap, append_assoc, append-nil, arith, cond, get_or, length, suc, sym, take}
 use Rattle.std.specs.Prelude.{filter, is_some}
-use Rattle.std.specs.Io.KnownBytes.{Appends}
-use Rattle.std.proofs.KnownBytes.{Appends-trans}
 use Rattle.std.proofs.lemmas.List.{length_push, take_more}
 use Rattle.std.proofs.lemmas.List.Elements.{filter-append}
 use Rattle.std.proofs.Math.Nat.{zero-add}
@@ -55,16 +53,14 @@ numbered_from-append number root inputs (first ∷ rows) row =
     ∙ sym (append_assoc line (numbered_from (suc number) root inputs rows)
     (numbered_line (length (first ∷ rows) + number) root inputs row))
 
--- a stream with the lines of the rows so far has those of one row more
+-- the lines of the rows so far, and that of a row more
 pub numbered-more : (root : List ℕ) (inputs : List Input) (rows : List Row) (i : ℕ) (row : Row)
-    (number : ℕ) (a b c : Option (List ℕ)) → i < length rows → row ≡ get_or rows i row
+    (number : ℕ) → i < length rows → row ≡ get_or rows i row
     → is_some row.change ≡ true → number ≡ length (changed (take i rows)) + 1
-    → Appends a b (numbered root inputs (take i rows)) → Appends b c (numbered_line number root inputs row)
-    → Appends a c (numbered root inputs (take (i + 1) rows))
-numbered-more root inputs rows i row number a b c within is changes counted before one =
+    → numbered root inputs (take i rows) ++ numbered_line number root inputs row
+    ≡ numbered root inputs (take (i + 1) rows)
+numbered-more root inputs rows i row number within is changes counted =
     let front = changed (take i rows) in
-    subst (Appends a c)
-    (ap (λ n. numbered_from 1 root inputs front ++ numbered_line n root inputs row) counted
+    ap (λ n. numbered_from 1 root inputs front ++ numbered_line n root inputs row) counted
     ∙ sym (numbered_from-append 1 root inputs front row)
-    ∙ sym (ap (numbered_from 1 root inputs) (changed-one rows i row within is changes)))
-    (Appends-trans a b c _ _ before one)
+    ∙ sym (ap (numbered_from 1 root inputs) (changed-one rows i row within is changes))

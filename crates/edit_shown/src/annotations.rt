@@ -1,8 +1,6 @@
 //! Annotations of GitHub Actions for the requirements of an upgrade.
-ghost use Rattle.std.specs.Prelude.{◌≡◌, ◌⊎◌, IfErr, IfOk, OnOk, string_bytes};
-ghost use Rattle.std.specs.Io.KnownBytes.{Appends};
+ghost use Rattle.std.specs.Prelude.{◌≡◌, ◌++◌, IfErr, IfOk, OnOk, string_bytes};
 ghost use Rattle.edit_base.specs.Errors.{IsMemory};
-ghost use Rattle.edit_base.specs.declared.errors.Error.TheVariants.{Output};
 ghost use Rattle.edit_shown.specs.Annotations as spec;
 ghost use Rattle.edit_shown.specs.InputDocuments.{IsDocumentOf};
 ghost use Rattle.edit_shown.specs.Messages.{path_at};
@@ -21,9 +19,8 @@ use crate::messages::path_at;
 use crate::paths::relative_path;
 use edit_base::CargoResult;
 use edit_metadata::Input;
-use edit_report::{Row, shell_write_stdout};
+use edit_report::Row;
 use std::alloc::Global;
-use std::io;
 
 /// The annotation of a row, at the line of its requirement in the document of its input.
 fn annotation_in(
@@ -48,47 +45,46 @@ fn annotation_in(
     Ok(annotation(alloc, file, line, message.as_str())?)
 }
 
-/// Prints the annotation of a row, where it has one. `last` is the document of an input; returns that of the
+/// Appends the annotation of a row, where it has one. `last` is the document of an input; returns that of the
 /// row's input where the row has an annotation.
-fn print_row<O: io::Write>(
+fn push_row(
     alloc: Global,
     root: &str,
     inputs: &[Input],
     row: &Row,
     last: InputDocument,
-    out: &mut O,
+    text: &mut String,
 ) -> CargoResult<InputDocument>
     requires { IsDocumentOf inputs.now last }
     ensures document { IfOk result (IsDocumentOf inputs.now) }
-    ensures text { OnOk result (Appends (O.contents out.old) (O.contents out.new)
-        (spec.row_annotation root.now inputs.now row.now)) }
-    ensures error { IfErr result (λ e. IsMemory e ⊎ (e ≡ Output)) }
+    ensures text { OnOk result (string_bytes text.new
+        ≡ string_bytes text.old ++ spec.row_annotation root.now inputs.now row.now) }
+    ensures error { IfErr result IsMemory }
 {
     if !is_annotated(row) {
         return Ok(last);
     }
     let mut own = next_document(alloc, inputs, row.input, last)?;
-    let text = annotation_in(alloc, root, inputs, row, &mut own)?;
-    shell_write_stdout(out, text.as_str())?;
+    let line = annotation_in(alloc, root, inputs, row, &mut own)?;
+    text.push_str(line.as_str())?;
     Ok(own)
 }
 
-/// Prints the annotations of rows: one notice for each requirement that changes or that an option could
+/// The annotations of rows: one notice for each requirement that changes or that an option could
 /// raise, at the line of its text before the upgrade. Files are named relative to the folder `root`.
-pub fn print_annotations<O: io::Write>(
+pub fn annotations_text(
     alloc: Global,
     root: &str,
     inputs: &[Input],
     rows: &[Row],
-    out: &mut O,
-) -> CargoResult<()>
-    ensures text { OnOk result (Appends (O.contents out.old) (O.contents out.new)
-        (spec.annotations root.now inputs.now rows.now)) }
-    ensures error { IfErr result (λ e. IsMemory e ⊎ (e ≡ Output)) }
+) -> CargoResult<String>
+    ensures text { IfOk result (λ s. string_bytes s ≡ spec.annotations root.now inputs.now rows.now) }
+    ensures error { IfErr result IsMemory }
 {
+    let mut text = String::new(alloc);
     let mut last = read_input(alloc, inputs, 0)?;
     for row in rows {
-        last = print_row(alloc, root, inputs, row, last, out)?;
+        last = push_row(alloc, root, inputs, row, last, &mut text)?;
     }
-    Ok(())
+    Ok(text)
 }

@@ -13,11 +13,11 @@ mod numbered;
 mod paths;
 mod presentation;
 
-pub use annotations::print_annotations;
+pub use annotations::annotations_text;
 pub use changes::{push_changes, push_version_changes};
 pub use diffs::{next_diff, other_outputs};
 pub use held_back::{HeldBack, list_held_back};
-pub use markdown::print_markdown;
-pub use messages::print_messages;
-pub use numbered::print_numbered;
+pub use markdown::markdown_text;
+pub use messages::messages_text;
+pub use numbered::numbered_text;
 pub use presentation::{MessageFormat, Presentation};

@@ -1,9 +1,7 @@
 //! An upgrade as JSON, one message a line.
-ghost use Rattle.std.specs.Prelude.{◌≡◌, ◌⊎◌, IfErr, OnOk};
-ghost use Rattle.std.specs.Io.KnownBytes.{Appends};
+ghost use Rattle.std.specs.Prelude.{◌≡◌, ◌++◌, IfErr, IfOk, OnOk, string_bytes};
 ghost use Rattle.std.specs.List.{flat_map};
 ghost use Rattle.edit_base.specs.Errors.{IsMemory};
-ghost use Rattle.edit_base.specs.declared.errors.Error.TheVariants as error;
 ghost use Rattle.edit_shown.specs.HeldBack.{held_back};
 ghost use Rattle.edit_shown.specs.JsonMessages.{summary_members};
 ghost use Rattle.edit_shown.specs.Messages as spec;
@@ -14,10 +12,9 @@ use crate::json::{
 };
 use edit_base::CargoResult;
 use edit_metadata::Input;
-use edit_report::{Output, Row, shell_write_stdout};
+use edit_report::{Output, Row};
 use edit_upgrade::{Options, UpgradePlan, Warning};
 use std::alloc::Global;
-use std::io;
 
 /// The path of the input at this index; the empty text where there is none.
 pub(crate) fn path_at(inputs: &[Input], i: usize) -> &str
@@ -29,121 +26,115 @@ pub(crate) fn path_at(inputs: &[Input], i: usize) -> &str
     }
 }
 
-/// Prints the message of a row.
-fn print_row<O: io::Write>(
-    alloc: Global,
-    inputs: &[Input],
-    row: &Row,
-    out: &mut O,
-) -> CargoResult<()>
-    ensures text { OnOk result (Appends (O.contents out.old) (O.contents out.new)
-        (spec.row_message inputs.now row.now)) }
-    ensures error { IfErr result (λ e. IsMemory e ⊎ (e ≡ error.Output)) }
+/// Appends the message of a row.
+fn push_row(alloc: Global, inputs: &[Input], row: &Row, text: &mut String) -> CargoResult<()>
+    ensures text { OnOk result (string_bytes text.new
+        ≡ string_bytes text.old ++ spec.row_message inputs.now row.now) }
+    ensures error { IfErr result IsMemory }
 {
     let line = row_message(alloc, path_at(inputs, row.input), row)?;
-    shell_write_stdout(out, line.as_str())
+    text.push_str(line.as_str())?;
+    Ok(())
 }
 
-/// Prints the message of each row.
-fn print_rows<O: io::Write>(
-    alloc: Global,
-    inputs: &[Input],
-    rows: &[Row],
-    out: &mut O,
-) -> CargoResult<()>
-    ensures text { OnOk result (Appends (O.contents out.old) (O.contents out.new)
-        (flat_map (spec.row_message inputs.now) rows.now)) }
-    ensures error { IfErr result (λ e. IsMemory e ⊎ (e ≡ error.Output)) }
+/// Appends the message of each row.
+fn push_rows(alloc: Global, inputs: &[Input], rows: &[Row], text: &mut String) -> CargoResult<()>
+    ensures text { OnOk result (string_bytes text.new
+        ≡ string_bytes text.old ++ flat_map (spec.row_message inputs.now) rows.now) }
+    ensures error { IfErr result IsMemory }
 {
     for row in rows {
-        print_row(alloc, inputs, row, out)?;
+        push_row(alloc, inputs, row, text)?;
     }
     Ok(())
 }
 
-/// Prints the message of a warning.
-fn print_warning<O: io::Write>(
+/// Appends the message of a warning.
+fn push_warning(
     alloc: Global,
     inputs: &[Input],
     warning: &Warning,
-    out: &mut O,
+    text: &mut String,
 ) -> CargoResult<()>
-    ensures text { OnOk result (Appends (O.contents out.old) (O.contents out.new)
-        (spec.warning_message inputs.now warning.now)) }
-    ensures error { IfErr result (λ e. IsMemory e ⊎ (e ≡ error.Output)) }
+    ensures text { OnOk result (string_bytes text.new
+        ≡ string_bytes text.old ++ spec.warning_message inputs.now warning.now) }
+    ensures error { IfErr result IsMemory }
 {
     let manifest = path_at(inputs, warning.input);
     let line = warning_message(alloc, manifest, warning.text.as_str())?;
-    shell_write_stdout(out, line.as_str())
+    text.push_str(line.as_str())?;
+    Ok(())
 }
 
-/// Prints the message of each warning.
-fn print_warnings<O: io::Write>(
+/// Appends the message of each warning.
+fn push_warnings(
     alloc: Global,
     inputs: &[Input],
     warnings: &[Warning],
-    out: &mut O,
+    text: &mut String,
 ) -> CargoResult<()>
-    ensures text { OnOk result (Appends (O.contents out.old) (O.contents out.new)
-        (flat_map (spec.warning_message inputs.now) warnings.now)) }
-    ensures error { IfErr result (λ e. IsMemory e ⊎ (e ≡ error.Output)) }
+    ensures text { OnOk result (string_bytes text.new
+        ≡ string_bytes text.old ++ flat_map (spec.warning_message inputs.now) warnings.now) }
+    ensures error { IfErr result IsMemory }
 {
     for warning in warnings {
-        print_warning(alloc, inputs, warning, out)?;
+        push_warning(alloc, inputs, warning, text)?;
     }
     Ok(())
 }
 
-/// Prints the message of a manifest that changes.
-fn print_file<O: io::Write>(
+/// Appends the message of a manifest that changes.
+fn push_file(
     alloc: Global,
     options: &Options,
     output: &Output,
-    out: &mut O,
+    text: &mut String,
 ) -> CargoResult<()>
-    ensures text { OnOk result (Appends (O.contents out.old) (O.contents out.new)
-        (spec.file_message options.now output.now)) }
-    ensures error { IfErr result (λ e. IsMemory e ⊎ (e ≡ error.Output)) }
+    ensures text { OnOk result (string_bytes text.new
+        ≡ string_bytes text.old ++ spec.file_message options.now output.now) }
+    ensures error { IfErr result IsMemory }
 {
     let written = !(options.dry_run || options.locked);
     let line = file_message(alloc, output.path.as_str(), written)?;
-    shell_write_stdout(out, line.as_str())
+    text.push_str(line.as_str())?;
+    Ok(())
 }
 
-/// Prints the message of each manifest that changes.
-fn print_files<O: io::Write>(
+/// Appends the message of each manifest that changes.
+fn push_files(
     alloc: Global,
     options: &Options,
     outputs: &[Output],
-    out: &mut O,
+    text: &mut String,
 ) -> CargoResult<()>
-    ensures text { OnOk result (Appends (O.contents out.old) (O.contents out.new)
-        (flat_map (spec.file_message options.now) outputs.now)) }
-    ensures error { IfErr result (λ e. IsMemory e ⊎ (e ≡ error.Output)) }
+    ensures text { OnOk result (string_bytes text.new
+        ≡ string_bytes text.old ++ flat_map (spec.file_message options.now) outputs.now) }
+    ensures error { IfErr result IsMemory }
 {
     for output in outputs {
-        print_file(alloc, options, output, out)?;
+        push_file(alloc, options, output, text)?;
     }
     Ok(())
 }
 
-/// Prints the message of what was held back for the age of versions, if there is something.
-fn print_held_back<O: io::Write>(
+/// Appends the message of what was held back for the age of versions, if there is something.
+fn push_held_back(
     alloc: Global,
     plan: &UpgradePlan,
     options: &Options,
-    out: &mut O,
+    text: &mut String,
 ) -> CargoResult<()>
-    ensures text { OnOk result (Appends (O.contents out.old) (O.contents out.new)
-        (spec.held_back_message (held_back plan.now options.now))) }
-    ensures error { IfErr result (λ e. IsMemory e ⊎ (e ≡ error.Output)) }
+    ensures text { OnOk result (string_bytes text.new
+        ≡ string_bytes text.old ++ spec.held_back_message (held_back plan.now options.now)) }
+    ensures error { IfErr result IsMemory }
 {
     let held = list_held_back(alloc, plan, options)?;
     if held.is_empty() {
         return Ok(());
     }
     let line = held_back_message(alloc, &held)?;
-    shell_write_stdout(out, line.as_str())
+    text.push_str(line.as_str())?;
+    Ok(())
 }
 
 /// The summary of a plan and its calls.
@@ -162,39 +153,41 @@ fn summary_of<'a>(plan: &'a UpgradePlan, options: &Options, calls: &'a [Vec<Stri
     }
 }
 
-/// Prints the last message of an upgrade.
-fn print_summary<O: io::Write>(
+/// Appends the last message of an upgrade.
+fn push_summary(
     alloc: Global,
     plan: &UpgradePlan,
     options: &Options,
     calls: &[Vec<String>],
-    out: &mut O,
+    text: &mut String,
 ) -> CargoResult<()>
-    ensures text { OnOk result (Appends (O.contents out.old) (O.contents out.new)
-        (spec.summary_message plan.now options.now (spec.call_texts calls.now))) }
-    ensures error { IfErr result (λ e. IsMemory e ⊎ (e ≡ error.Output)) }
+    ensures text { OnOk result (string_bytes text.new
+        ≡ string_bytes text.old ++ spec.summary_message plan.now options.now (spec.call_texts calls.now)) }
+    ensures error { IfErr result IsMemory }
 {
     let line = summary_message(alloc, summary_of(plan, options, calls))?;
-    shell_write_stdout(out, line.as_str())
+    text.push_str(line.as_str())?;
+    Ok(())
 }
 
-/// Prints an upgrade as JSON, one message a line: its rows, its warnings, the manifests that change, what was
-/// held back for the age of versions, the summary.
-pub fn print_messages<O: io::Write>(
+/// An upgrade as JSON, one message a line: its rows, its warnings, the manifests that change, what was held
+/// back for the age of versions, the summary.
+pub fn messages_text(
     alloc: Global,
     plan: &UpgradePlan,
     inputs: &[Input],
     options: &Options,
     calls: &[Vec<String>],
-    out: &mut O,
-) -> CargoResult<()>
-    ensures text { OnOk result (Appends (O.contents out.old) (O.contents out.new)
-        (spec.messages plan.now inputs.now options.now (spec.call_texts calls.now))) }
-    ensures error { IfErr result (λ e. IsMemory e ⊎ (e ≡ error.Output)) }
+) -> CargoResult<String>
+    ensures text { IfOk result (λ s. string_bytes s
+        ≡ spec.messages plan.now inputs.now options.now (spec.call_texts calls.now)) }
+    ensures error { IfErr result IsMemory }
 {
-    print_rows(alloc, inputs, plan.rows.as_slice(), out)?;
-    print_warnings(alloc, inputs, plan.warnings.as_slice(), out)?;
-    print_files(alloc, options, plan.outputs.as_slice(), out)?;
-    print_held_back(alloc, plan, options, out)?;
-    print_summary(alloc, plan, options, calls, out)
+    let mut text = String::new(alloc);
+    push_rows(alloc, inputs, plan.rows.as_slice(), &mut text)?;
+    push_warnings(alloc, inputs, plan.warnings.as_slice(), &mut text)?;
+    push_files(alloc, options, plan.outputs.as_slice(), &mut text)?;
+    push_held_back(alloc, plan, options, &mut text)?;
+    push_summary(alloc, plan, options, calls, &mut text)?;
+    Ok(text)
 }

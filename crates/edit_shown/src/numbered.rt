@@ -1,8 +1,6 @@
 //! The rows that change, numbered.
-ghost use Rattle.std.specs.Prelude.{◌≡◌, ◌⊎◌, IfErr, IfOk, OnOk, string_bytes};
-ghost use Rattle.std.specs.Io.KnownBytes.{Appends};
+ghost use Rattle.std.specs.Prelude.{◌≡◌, IfErr, IfOk, string_bytes};
 ghost use Rattle.edit_base.specs.Errors.{IsMemory};
-ghost use Rattle.edit_base.specs.declared.errors.Error.TheVariants.{Output};
 ghost use Rattle.edit_shown.specs.Numbered as spec;
 
 use crate::annotations::row_text;
@@ -10,9 +8,8 @@ use crate::messages::path_at;
 use crate::paths::relative_path;
 use edit_base::CargoResult;
 use edit_metadata::Input;
-use edit_report::{Row, shell_write_stdout};
+use edit_report::Row;
 use std::alloc::Global;
-use std::io;
 
 /// The line of a row that changes: its number, its manifest, and what becomes of its requirement.
 fn numbered_line(
@@ -31,26 +28,25 @@ fn numbered_line(
     Ok(format!(in alloc; "{number}  {file}  {text}\n")?)
 }
 
-/// Prints the rows that change, numbered from 1, one on each line. Manifests are named relative to the folder
+/// The rows that change, numbered from 1, one on each line. Manifests are named relative to the folder
 /// `root`.
-pub fn print_numbered<O: io::Write>(
+pub fn numbered_text(
     alloc: Global,
     root: &str,
     inputs: &[Input],
     rows: &[Row],
-    out: &mut O,
-) -> CargoResult<()>
-    ensures text { OnOk result (Appends (O.contents out.old) (O.contents out.new)
-        (spec.numbered root.now inputs.now rows.now)) }
-    ensures error { IfErr result (λ e. IsMemory e ⊎ (e ≡ Output)) }
+) -> CargoResult<String>
+    ensures text { IfOk result (λ s. string_bytes s ≡ spec.numbered root.now inputs.now rows.now) }
+    ensures error { IfErr result IsMemory }
 {
+    let mut text = String::new(alloc);
     let mut number: u64 = 0;
     'rows: for row in rows {
         if row.change.is_some() {
             number = number.saturating_add(1);
             let line = numbered_line(alloc, number, root, inputs, row)?;
-            shell_write_stdout(out, line.as_str())?;
+            text.push_str(line.as_str())?;
         }
     }
-    Ok(())
+    Ok(text)
 }

@@ -1,5 +1,5 @@
 //! Prints a plan before a file is written.
-ghost use Rattle.std.specs.Prelude.{◌≡◌, ◌++◌, ◌⊎◌, IfErr, OnOk, length};
+ghost use Rattle.std.specs.Prelude.{◌≡◌, ◌++◌, ◌⊎◌, IfErr, IfOk, OnOk, length, string_bytes};
 ghost use Rattle.std.specs.Io.KnownBytes.{Appends};
 ghost use Rattle.edit_base.specs.Errors.{IsMemory};
 ghost use Rattle.edit_base.specs.declared.errors.Error.TheVariants.{Output as Unwritten};
@@ -13,12 +13,28 @@ use crate::upgrade_output::reports::print_reports;
 use crate::upgrade_output::task::DeliveryTask;
 use edit_base::CargoResult;
 use edit_metadata::Input;
-use edit_report::Output;
-use edit_shown::{
-    MessageFormat, print_annotations, print_markdown, print_messages, print_numbered,
-};
+use edit_report::{Output, shell_write_stdout};
+use edit_shown::{MessageFormat, annotations_text, markdown_text, messages_text, numbered_text};
 use std::alloc::Global;
 use std::io;
+
+/// A plan as JSON, as one table of Markdown, as annotations, or as numbered rows, where that is requested;
+/// else empty.
+fn plan_text(alloc: Global, task: &DeliveryTask<'_>, calls: &[Vec<String>]) -> CargoResult<String>
+    ensures text { IfOk result (λ s. string_bytes s ≡ messages_as task.now.presentation.format
+        task.now.plan.now task.now.inputs.now task.now.root.now task.now.options.now (calls_view calls.now)) }
+    ensures error { IfErr result IsMemory }
+{
+    let (plan, inputs, options) = (task.plan, task.inputs, task.options);
+    let rows = plan.rows.as_slice();
+    match task.presentation.format {
+        MessageFormat::Human => Ok(String::new(alloc)),
+        MessageFormat::Json => messages_text(alloc, plan, inputs, options, calls),
+        MessageFormat::Markdown => markdown_text(alloc, rows, options.verbosity, inputs),
+        MessageFormat::Github => annotations_text(alloc, task.root, inputs, rows),
+        MessageFormat::Numbered => numbered_text(alloc, task.root, inputs, rows),
+    }
+}
 
 /// Prints a plan as JSON, as one table of Markdown, as annotations, or as numbered rows, where that is
 /// requested.
@@ -33,20 +49,8 @@ fn print_as<O: io::Write>(
         task.now.options.now (calls_view calls.now))) }
     ensures error { IfErr result (λ e. IsMemory e ⊎ (e ≡ Unwritten)) }
 {
-    let (plan, inputs, options) = (task.plan, task.inputs, task.options);
-    match task.presentation.format {
-        MessageFormat::Human => Ok(()),
-        MessageFormat::Json => print_messages(alloc, plan, inputs, options, calls, out),
-        MessageFormat::Markdown => {
-            print_markdown(alloc, plan.rows.as_slice(), options.verbosity, inputs, out)
-        }
-        MessageFormat::Github => {
-            print_annotations(alloc, task.root, inputs, plan.rows.as_slice(), out)
-        }
-        MessageFormat::Numbered => {
-            print_numbered(alloc, task.root, inputs, plan.rows.as_slice(), out)
-        }
-    }
+    let text = plan_text(alloc, task, calls)?;
+    shell_write_stdout(out, text.as_str())
 }
 
 /// Prints the diffs of manifests, where they are requested.

@@ -1,23 +1,17 @@
 //! Lines with the same cells as one row of a table.
-ghost use Rattle.std.specs.Prelude.{◌≡◌, ◌⊎◌, [], ℕ, List, None, IfErr, IfOk, OnOk, codes, map, string_bytes};
+ghost use Rattle.std.specs.Prelude.{◌≡◌, ◌++◌, [], ℕ, List, None, IfOk, OnOk, codes, map, string_bytes};
 ghost use Rattle.std.specs.BTreeMap.{get_by_text};
-ghost use Rattle.std.specs.Io.KnownBytes.{Appends};
 ghost use Rattle.std.specs.List.{join_by};
 ghost use Rattle.std.specs.Map.{update};
 ghost use Rattle.std.specs.Option.{option_map_or};
 ghost use Rattle.std.specs.Str.{bytes_eq};
-ghost use Rattle.edit_base.specs.Errors.{IsMemory};
-ghost use Rattle.edit_base.specs.declared.errors.Error.TheVariants.{Output};
 ghost use Rattle.edit_shown.specs.Markdown as spec;
 
 use crate::markdown::cells::cell_text;
 use crate::markdown::lines::MarkdownLine;
-use edit_base::CargoResult;
 use edit_metadata::Input;
-use edit_report::shell_write_stdout;
 use std::alloc::{AllocError, Global};
 use std::collections::BTreeMap;
-use std::io;
 
 /// The inputs of the lines by their cells, in order.
 pub(crate) fn group_inputs(
@@ -69,61 +63,58 @@ fn members_cell(
     joined_names(alloc, inputs, members.as_slice())
 }
 
-/// Prints a row of the table: its cells, and the names of its inputs.
-fn print_group<O: io::Write>(
+/// Appends a row of the table: its cells, and the names of its inputs.
+fn push_group(
     alloc: Global,
     cells: &str,
     members: Vec<usize>,
     inputs: &[Input],
-    out: &mut O,
-) -> CargoResult<()>
-    ensures text { OnOk result (Appends (O.contents out.old) (O.contents out.new)
-        (spec.table_row inputs.now cells.now members.items)) }
-    ensures error { IfErr result (λ e. IsMemory e ⊎ (e ≡ Output)) }
+    text: &mut String,
+) -> Result<(), AllocError>
+    ensures { OnOk result (string_bytes text.new
+        ≡ string_bytes text.old ++ spec.table_row inputs.now cells.now members.items) }
 {
     let names = members_cell(alloc, inputs, members)?;
-    let text = format!(in alloc; "{cells}{names} |\n")?;
-    shell_write_stdout(out, text.as_str())
+    let row = format!(in alloc; "{cells}{names} |\n")?;
+    text.push_str(row.as_str())
 }
 
-/// Prints the row of these cells and removes their inputs; nothing where they were removed before.
-fn print_first<O: io::Write>(
+/// Appends the row of these cells and removes their inputs; nothing where they were removed before.
+fn push_first(
     alloc: Global,
     cells: &str,
     groups: &mut BTreeMap<String, Vec<usize>>,
     inputs: &[Input],
-    out: &mut O,
-) -> CargoResult<()>
+    text: &mut String,
+) -> Result<(), AllocError>
     ensures removed { (q : List ℕ) → get_by_text groups.new q
         ≡ update bytes_eq (get_by_text groups.old) cells.now None q }
-    ensures text { OnOk result (Appends (O.contents out.old) (O.contents out.new)
-        (option_map_or (λ members. spec.table_row inputs.now cells.now members.items)
-        (get_by_text groups.old cells.now) [])) }
-    ensures error { IfErr result (λ e. IsMemory e ⊎ (e ≡ Output)) }
+    ensures text { OnOk result (string_bytes text.new ≡ string_bytes text.old
+        ++ option_map_or (λ members. spec.table_row inputs.now cells.now members.items)
+        (get_by_text groups.old cells.now) []) }
 {
     match groups.remove(cells) {
-        Some(members) => print_group(alloc, cells, members, inputs, out),
+        Some(members) => push_group(alloc, cells, members, inputs, text),
         None => Ok(()),
     }
 }
 
-/// Prints the rows of the table, in the order in which their cells first occur. The map has the inputs of
+/// Appends the rows of the table, in the order in which their cells first occur. The map has the inputs of
 /// these lines by their cells.
-pub(crate) fn print_groups<O: io::Write>(
+pub(crate) fn push_groups(
     alloc: Global,
     lines: &[MarkdownLine],
     mut groups: BTreeMap<String, Vec<usize>>,
     inputs: &[Input],
-    out: &mut O,
-) -> CargoResult<()>
+    text: &mut String,
+) -> Result<(), AllocError>
     requires { (cells : List ℕ) → option_map_or (λ g. g.items) (get_by_text groups cells) []
         ≡ spec.inputs_of (map spec.line_view lines.now) cells }
-    ensures text { OnOk result (Appends (O.contents out.old) (O.contents out.new)
-        (spec.table_rows inputs.now (map spec.line_view lines.now))) }
-    ensures error { IfErr result (λ e. IsMemory e ⊎ (e ≡ Output)) }
+    ensures { OnOk result (string_bytes text.new
+        ≡ string_bytes text.old ++ spec.table_rows inputs.now (map spec.line_view lines.now)) }
 {
     for line in lines {
-        print_first(alloc, line.cells.as_str(), &mut groups, inputs, out)?;
+        push_first(alloc, line.cells.as_str(), &mut groups, inputs, text)?;
     }
     Ok(())
 }
