@@ -13,7 +13,7 @@ use edit_metadata::Input;
 use edit_sources::FileIndex;
 use edit_sources::registry::resolve;
 use edit_steps::upgrade_read::{
-    IndexSource, RustChoice, SharedConfigs, SourceRequest, Sources, read_sources,
+    IndexSource, RustChoice, SharedConfigs, SourceRequest, Sources, read_index, read_sources,
 };
 use edit_store::HostStore;
 use edit_upgrade::{Options, plan_shared};
@@ -173,7 +173,7 @@ fn upgrade(
     Ok(())
 }
 
-/// Reads the files that a call needs from a folder.
+/// Reads the manifest and the configurations that a call needs from a folder.
 fn sources_of(rt: &HostRuntime, folder: &str) -> CargoResult<Sources>
     ensures { IfOk result MayBePlanned }
 {
@@ -181,9 +181,6 @@ fn sources_of(rt: &HostRuntime, folder: &str) -> CargoResult<Sources>
     let request = SourceRequest {
         manifest_path: None,
         metadata_json: None,
-        index_file: Some("index.json"),
-        index_dir: None,
-        published_before: None,
         config: None,
         default_config: None,
         rust: RustChoice::Ignored,
@@ -195,15 +192,26 @@ fn sources_of(rt: &HostRuntime, folder: &str) -> CargoResult<Sources>
     }
 }
 
+/// Reads the index that a call needs from a folder.
+fn index_of(rt: &HostRuntime, folder: &str) -> CargoResult<IndexSource> {
+    let mut files = HostStore::new(rt.clone()?);
+    match read_index(
+        rt.alloc(),
+        Some("index.json"),
+        None,
+        None,
+        folder,
+        &mut files,
+    ) {
+        Ok(index) => Ok(index),
+        Err(failure) => Err(failure.error),
+    }
+}
+
 /// Makes a call with the files of a folder.
 fn over_files(rt: &HostRuntime, folder: &str, call: CacheCall<'_>) -> CargoResult<()> {
-    let sources = sources_of(rt, folder)?;
-    let Sources {
-        target,
-        configs,
-        index,
-    } = sources;
-    let IndexSource::Lines(index) = index else {
+    let Sources { target, configs } = sources_of(rt, folder)?;
+    let IndexSource::Lines(index) = index_of(rt, folder)? else {
         return Ok(());
     };
     let index = CountedIndex::new(index, call.lookups);

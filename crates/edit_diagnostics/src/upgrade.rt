@@ -8,7 +8,7 @@ use crate::index_files::index_file;
 use crate::registries::{EntryAt, explain_lookup};
 use edit_base::Error;
 use edit_metadata::Input;
-use edit_steps::upgrade_read::{SharedConfigs, SourceRequest};
+use edit_steps::upgrade_read::SharedConfigs;
 use edit_steps::{RunError, absolute_path, at_byte, at_first};
 use edit_store::Store;
 use edit_upgrade::{Origin, PlanFailure};
@@ -64,17 +64,17 @@ fn explain_entry<S: Store>(
 }
 
 /// The absolute path of the given index folder.
-fn folder_named(alloc: Global, request: &SourceRequest<'_>, current: &str) -> Option<String> {
-    absolute_path(alloc, current, request.index_dir?).ok()
+fn folder_named(alloc: Global, index_dir: Option<&str>, current: &str) -> Option<String> {
+    absolute_path(alloc, current, index_dir?).ok()
 }
 
 /// Explains a failure of the plan of an upgrade over these manifests, with place and help: the manifest that
-/// is no TOML, the entry whose registry or name is invalid, or the index file that its lookup reads. Reads
-/// files again for it; no file changes.
+/// is no TOML, the entry whose registry or name is invalid, or the index file that its lookup reads, which is
+/// below the given index folder, where one is given. Reads files again for it; no file changes.
 pub fn explain_upgrade<S: Store>(
     alloc: Global,
     failure: PlanFailure,
-    request: &SourceRequest<'_>,
+    index_dir: Option<&str>,
     current: &str,
     inputs: &[Input],
     configs: &SharedConfigs,
@@ -102,7 +102,7 @@ pub fn explain_upgrade<S: Store>(
                 configs,
                 place,
             };
-            let dir = folder_named(alloc, request, current);
+            let dir = folder_named(alloc, index_dir, current);
             explain_entry(alloc, error, dir.as_deref(), at, files)
         }
     }

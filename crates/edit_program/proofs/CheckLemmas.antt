@@ -9,7 +9,6 @@ use Rattle.edit_program.specs.SetVersions.{AreVersionsSet, outputs_to_write}
 use Rattle.edit_program.specs.declared.set_version_run.set_version_args.SetVersionArgs.{SetVersionArgs}
 use Rattle.edit_store.specs.Store.{SameFiles, StoreView}
 use Rattle.edit_program.specs.Upgrading.{IsUpgraded, delivery_for}
-use Rattle.edit_program.specs.declared.upgrade_run.following.Readings.{Readings}
 use Rattle.edit_program.specs.declared.upgrade_run.upgrade_args.UpgradeArgs.{UpgradeArgs}
 use Rattle.edit_program.proofs.DryRuns.{dry_keeps}
 use Rattle.edit_program.specs.ParsedOptions.{is_dry, is_given, lists_rows}
@@ -52,10 +51,8 @@ pub dry_upgrade : (due : Bool) (HasFields HasDecodedValue : List ℕ → Type 0)
     → args.options.dry_run ≡ true → IsUpgraded due HasFields HasDecodedValue args run
     → SameFiles run.old.file_at run.new.file_at
 dry_upgrade due HasFields HasDecodedValue args run dry h =
-    let same : h.readings.args.options.dry_run ≡ args.options.dry_run =
-    ap (λ (r : Readings). r.args.options.dry_run) h.ready.over.same ∙ h.ready.follows.merged.options.dry_run in
-    dry_keeps HasFields (delivery_for h.readings run.current h.plan h.apart h.path) run.old run.new (same ∙ dry)
-    h.ends.delivered.printed
+    dry_keeps HasFields (delivery_for h.readings run.current h.plan h.apart h.path) run.old run.new
+    (h.ready.follows.merged.options.dry_run ∙ dry) h.ends.delivered.printed
 
 nothing_written : (outputs : List Output) (old new : StoreView) → outputs ≡ [] → AreWritten outputs old new
     → SameFiles old.file_at new.file_at

@@ -24,7 +24,7 @@ use Rattle.edit_steps.specs.Shared.{lists_for}
 use Rattle.edit_steps.specs.Sources.{AreRead}
 use Rattle.edit_steps.specs.declared.upgrade_read.sources.Sources.{Sources}
 use Rattle.edit_program.specs.UpgradeCauses.{IsLookupsCause}
-use Rattle.edit_program.specs.Planned.{IsPlanCause, IsPlanned, to_manifest_request, empty_answers}
+use Rattle.edit_program.specs.Planned.{IsPlanCause, IsPlanned, to_request, empty_answers}
 use Rattle.edit_program.specs.declared.upgrade_run.upgrade_args.UpgradeArgs.{UpgradeArgs}
 
 -- the looks of a plan over an index that has no name are those that are needed
@@ -60,8 +60,8 @@ lines_refused o inputs configs plan e planned (inr bad) =
 
 -- what the words name is not read
 pub unread_cause : (args : UpgradeArgs) (current : List ℕ) (home : Option (List ℕ)) (old new : StoreView)
-    (e : Error) → IsReadCause current home (to_manifest_request args) old new e
-    → IsFailure old new e ⊎ IsSourceError current (to_manifest_request args) e
+    (e : Error) → IsReadCause current home (to_request args) old new e
+    → IsFailure old new e ⊎ IsSourceError current (to_request args) e
     → IsLookupsCause args current home old new e
 unread_cause args current home old new e (inl failed) only = inl failed
 unread_cause args current home old new e (inr wrong) (inl failed) = inl failed
@@ -71,7 +71,7 @@ unread_cause args current home old new e (inr wrong) (inr unread) =
 -- there is no plan for it
 pub unplanned_cause : (args : UpgradeArgs) (current : List ℕ) (home : Option (List ℕ)) (old new : StoreView)
     (s : Sources) (e : Error)
-    → (old.tells ≡ true → AreRead old.file_at current home (to_manifest_request args) s)
+    → (old.tells ≡ true → AreRead old.file_at current home (to_request args) s)
     → IsMemory e ⊎ IsPlanCause args.options s.target.inputs.items (lists_for s.configs) no_view e
     → IsLookupsCause args current home old new e
 unplanned_cause args current home old new s e read (inl memory) = inl (inl (inl memory))

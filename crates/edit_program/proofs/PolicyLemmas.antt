@@ -1,6 +1,7 @@
 -- The policy that an upgrade follows, from its steps.
 use Rattle.std.proofs.Common.{◌≡◌, ◌∙◌, ℕ, Bor, List, [], ◌∷◌, None, Option, ap, get_or, inl, inr, length, map, subst, sym, true}
 use Rattle.std.specs.Prelude.{◌⊎◌, option_copied, option_map, slice_get}
+use Rattle.std.specs.Global.{Vec}
 use Rattle.std.proofs.lemmas.List.{length-map}
 use Rattle.edit_base.specs.Errors.{IsMemory, number_of}
 use Rattle.edit_base.specs.declared.errors.DeviceCall.TheVariants as call
@@ -10,7 +11,6 @@ use Rattle.edit_lock.specs.Views.{lock_view}
 use Rattle.edit_metadata.specs.Inputs.{HaveOwnPaths}
 use Rattle.edit_metadata.specs.Metadata.{WorkspaceModel}
 use Rattle.edit_metadata.specs.Roots.{IsRoot}
-use Rattle.edit_metadata.specs.RustInputs.{all_for_rust, for_rust}
 use Rattle.edit_metadata.specs.Workspaces.{workspace_view}
 use Rattle.edit_metadata.specs.declared.input.Input.{Input}
 use Rattle.edit_metadata.specs.declared.workspace.Workspace.{Workspace}
@@ -18,24 +18,21 @@ use Rattle.edit_policy.specs.Errors.{error_of}
 use Rattle.edit_policy.specs.Manifests.{IsManifestFault}
 use Rattle.edit_policy.specs.declared.error.PolicyError.{PolicyError}
 use Rattle.edit_policy.specs.declared.error.PolicyError.TheVariants.{Failed, Unexpected}
+use Rattle.edit_policy.specs.declared.policy.Policy.{Policy}
 use Rattle.edit_sources.specs.Configured.{given}
 use Rattle.edit_steps.proofs.ReadLemmas.{before, refused_on}
 use Rattle.edit_steps.specs.Causes.{HasNoIndex, IsReadCause}
-use Rattle.edit_steps.specs.Shared.{HasLists}
 use Rattle.edit_steps.specs.Sources.{AreDocuments, MayBePlanned}
-use Rattle.edit_steps.specs.declared.upgrade_read.index.IndexSource.{IndexSource}
 use Rattle.edit_steps.specs.declared.upgrade_read.sources.Sources.{Sources}
 use Rattle.edit_steps.specs.declared.upgrade_read.target.Target.{Target}
 use Rattle.edit_store.specs.Store.{IsCallError, OnlyReads, StoreView}
 use Rattle.edit_tree.specs.DocumentViews.{DocumentViews}
-use Rattle.edit_version.specs.declared.rust_version.RustVersion.{RustVersion}
 use Rattle.edit_program.proofs.CountLemmas.{error_counts, memory_counts}
 use Rattle.edit_program.proofs.UpgradeLemmas.{same_workspace}
-use Rattle.edit_program.specs.Followed.{AreForRust, AreOverIndex, HasBadPolicy, HasNoUpgradeIndex, HasPolicyFault, HasRoot, IsFollowing, IsParsedFrom, IsUnfollowed, with_index}
+use Rattle.edit_program.specs.Followed.{HasBadPolicy, HasNoUpgradeIndex, HasPolicyFault, HasRoot, IsFollowing, IsParsedFrom, IsUnfollowed}
 use Rattle.edit_program.specs.LockRead.{HasNoLock, IsLockRead}
-use Rattle.edit_program.specs.Planned.{to_manifest_request}
+use Rattle.edit_program.specs.Planned.{to_request}
 use Rattle.edit_program.specs.Reading.{IsRead}
-use Rattle.edit_program.specs.declared.upgrade_run.following.Readings.{Readings}
 use Rattle.edit_program.specs.declared.upgrade_run.reading.ReadFiles.{ReadFiles}
 use Rattle.edit_program.specs.declared.upgrade_run.upgrade_args.UpgradeArgs.{UpgradeArgs}
 
@@ -83,23 +80,23 @@ documents_for : (ds : List DocumentViews) (old new : List Input)
 documents_for ds old new same (inl none) = inl none
 documents_for ds old new same (inr are) = inr (are ∙ sym same)
 
--- files with inputs for a Rust version may be planned where those that were read may be
-pub may_be_planned : (version : RustVersion) (own s : Sources) → AreForRust version own s
-    → (HaveOwnPaths own.target.inputs.items → HaveOwnPaths s.target.inputs.items)
-    → map (λ (i : Input). i.bytes.items) s.target.inputs.items
+-- what was read may be planned with other inputs that have the same bytes
+pub may_be_planned : (own : Sources) (inputs : Vec Input)
+    → (HaveOwnPaths own.target.inputs.items → HaveOwnPaths inputs.items)
+    → map (λ (i : Input). i.bytes.items) inputs.items
     ≡ map (λ (i : Input). i.bytes.items) own.target.inputs.items
-    → MayBePlanned own → MayBePlanned s
-may_be_planned version own s are paths bytes may =
+    → MayBePlanned own → MayBePlanned (record own { target = record own.target { inputs = inputs } })
+may_be_planned own inputs paths bytes may =
     let old = own.target.inputs.items in
-    let new = s.target.inputs.items in
-    let each : length own.configs.which.items ≡ length new
-    = may.each ∙ sym (ap (λ (xs : List Input). length xs) are.inputs ∙ length-map old (for_rust version)) in
+    let contents = λ (i : Input). i.bytes.items in
+    let count : length old ≡ length inputs.items
+    = sym (sym (length-map inputs.items contents) ∙ ap (λ (all : List (List ℕ)). length all) bytes
+    ∙ length-map old contents) in
     record {
       paths = paths may.paths;
-      each = ap (λ configs. length configs.which.items) are.configs ∙ each;
-      lists = subst HasLists (sym are.configs) may.lists;
-      documents = subst (λ documents. AreDocuments documents.items new) (sym are.documents)
-          (documents_for own.target.documents.items old new bytes may.documents);
+      each = may.each ∙ count;
+      lists = may.lists;
+      documents = documents_for own.target.documents.items old inputs.items bytes may.documents;
     }
 
 -- an invalid policy cannot be followed
@@ -114,7 +111,7 @@ pub policy_refused : (args : UpgradeArgs) (current : List ℕ) (home : Option (L
     → (old.tells ≡ true → IsLockRead args.to_lockfile old.file_at current (given args.lock_file)
     (option_map lock_view own.lock))
     → IsMemory e ⊎ IsUnfollowed args own.sources.target e
-    → (IsReadCause current home (to_manifest_request args) old new e
+    → (IsReadCause current home (to_request args) old new e
     ⊎ (old.tells ≡ true → HasNoLock args.to_lockfile old.file_at current (given args.lock_file) e))
     ⊎ (old.tells ≡ true → HasBadPolicy args current home old.file_at e
     ⊎ HasNoUpgradeIndex args current home old.file_at e)
@@ -123,41 +120,32 @@ policy_refused args current home old new own e read locked (inl memory) =
 policy_refused args current home old new own e read locked (inr fault) =
     inr (λ t. inl (record { own = own; read = read t; locked = locked t; fault = fault }))
 
--- files may be planned over another index
-pub planned_over : (s t : Sources) (index : IndexSource) → t ≡ with_index index s → MayBePlanned s
-    → MayBePlanned t
-planned_over s t index is may =
-    subst MayBePlanned (sym is)
-    (record { paths = may.paths; each = may.each; lists = may.lists; documents = may.documents })
-
 -- the index cannot be read
 pub index_refused : (args : UpgradeArgs) (current : List ℕ) (home : Option (List ℕ))
-    (old mid new : StoreView) (own : ReadFiles) (followed : Readings) (e : Error) → OnlyReads old mid
+    (old mid new : StoreView) (own : ReadFiles) (sources : Sources) (policy : Policy) (chosen : UpgradeArgs)
+    (e : Error) → OnlyReads old mid
     → (old.tells ≡ true → IsRead args current home old.file_at own.sources)
     → (old.tells ≡ true → IsLockRead args.to_lockfile old.file_at current (given args.lock_file)
     (option_map lock_view own.lock))
-    → IsFollowing args own followed
+    → IsFollowing args own.sources sources policy chosen
     → IsCallError call.Read mid new e
     ⊎ (mid.tells ≡ true → HasNoIndex mid.file_at current (given args.index_file) e)
-    → (IsReadCause current home (to_manifest_request args) old new e
+    → (IsReadCause current home (to_request args) old new e
     ⊎ (old.tells ≡ true → HasNoLock args.to_lockfile old.file_at current (given args.lock_file) e))
     ⊎ (old.tells ≡ true → HasBadPolicy args current home old.file_at e
     ⊎ HasNoUpgradeIndex args current home old.file_at e)
-index_refused args current home old mid new own followed e reads read locked follows (inl refused) =
+index_refused args current home old mid new own sources policy chosen e reads read locked follows
+    (inl refused) =
     inl (inl (inl (inr (refused_on call.Read old mid new e reads refused))))
-index_refused args current home old mid new own followed e reads read locked follows (inr wrong) =
+index_refused args current home old mid new own sources policy chosen e reads read locked follows
+    (inr wrong) =
     inr (λ t. inr (record {
       own = own;
       read = read t;
       locked = locked t;
-      followed = followed;
+      sources = sources;
+      policy = policy;
+      chosen = chosen;
       follows = follows;
       cause = before (λ files. HasNoIndex files current (given args.index_file) e) old mid reads wrong t;
     }))
-
--- readings over an index that was read behind reads
-pub over_before : (args : UpgradeArgs) (current : List ℕ) (old mid : StoreView) (followed r : Readings)
-    → OnlyReads old mid → (mid.tells ≡ true → AreOverIndex args current mid.file_at followed r)
-    → old.tells ≡ true → AreOverIndex args current old.file_at followed r
-over_before args current old mid followed r reads are t =
-    before (λ files. AreOverIndex args current files followed r) old mid reads are t

@@ -21,7 +21,7 @@ use Rattle.edit_program.specs.LockRead.{HasNoLock}
 use Rattle.edit_program.specs.PlannedUpgrades.{prints_nothing}
 use Rattle.edit_program.specs.UpgradeCauses.{IsUnfit, IsUnplanned, IsUpgradeCause}
 use Rattle.edit_program.specs.UpgradeErrors.{IsReadingError, IsUpgradeError}
-use Rattle.edit_program.specs.Planned.{IsPlanCause, to_manifest_request, upgrade_index}
+use Rattle.edit_program.specs.Planned.{IsPlanCause, to_request, upgrade_index}
 use Rattle.edit_program.specs.Run.{Run, run_at}
 use Rattle.edit_program.specs.Revising.{IsRevisionError}
 use Rattle.edit_program.specs.Upgrading.{IsPathOf, IsPlannedFor, IsRevisedFor, delivery_for}
@@ -43,7 +43,7 @@ unread HasFields args current home local old new e same (inr only) wrong =
 pub policy_cause : (HasFields : List ℕ → Type 0) (args : UpgradeArgs) (current : List ℕ)
     (home : Option (List ℕ)) (local old new : StoreView) (e : Error) → SameFiles old.file_at new.file_at
     → IsFailure old new e ⊎ IsReadingError args current e
-    → (IsReadCause current home (to_manifest_request args) old new e
+    → (IsReadCause current home (to_request args) old new e
     ⊎ (old.tells ≡ true → HasNoLock args.to_lockfile old.file_at current (given args.lock_file) e))
     ⊎ (old.tells ≡ true → HasBadPolicy args current home old.file_at e
     ⊎ HasNoUpgradeIndex args current home old.file_at e)

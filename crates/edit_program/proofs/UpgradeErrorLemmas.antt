@@ -21,7 +21,7 @@ use Rattle.edit_steps.specs.declared.upgrade_read.target.Target.{Target}
 use Rattle.edit_store.specs.Store.{IsCallError, OnlyReads, StoreView}
 use Rattle.edit_program.specs.Followed.{HasFaultIn, HasPolicyFault, IsFollowed, IsUnfollowed}
 use Rattle.edit_program.specs.Merging.{LacksTime}
-use Rattle.edit_program.specs.Planned.{to_manifest_request}
+use Rattle.edit_program.specs.Planned.{to_request}
 use Rattle.edit_program.specs.UpgradeErrors.{IsFileError, IsLockFileError, IsPolicyError, IsReadingError}
 use Rattle.edit_program.specs.declared.upgrade_run.upgrade_args.UpgradeArgs.{UpgradeArgs}
 
@@ -50,7 +50,7 @@ lock_error args current old new e (inr wrong) = inr (inl wrong)
 
 -- the files after it are not read
 pub source_error : (args : UpgradeArgs) (current : List ℕ) (old mid new : StoreView) (e : Error)
-    → OnlyReads old mid → IsFailure mid new e ⊎ IsSourceError current (to_manifest_request args) e
+    → OnlyReads old mid → IsFailure mid new e ⊎ IsSourceError current (to_request args) e
     → IsFailure old new e ⊎ IsFileError args current e
 source_error args current old mid new e reads (inl failed) = inl (failed_on old mid new e reads failed)
 source_error args current old mid new e reads (inr wrong) = inr (inr wrong)

@@ -35,24 +35,24 @@ use Rattle.edit_program.specs.declared.upgrade_run.upgrade_args.UpgradeArgs.{Upg
 pub planned_for : (r : Readings) (local : StoreView) (plan : UpgradePlan) (test : Option VersionTest)
     → test ≡ upgrade_test r
     → IsPlanned r.args.options r.sources.target.inputs.items (lists_for r.sources.configs)
-    (restricted_view test (index_view r.args.published_before r.sources.index local)) plan
+    (restricted_view test (index_view r.args.published_before r.index local)) plan
     → IsPlannedFor r local plan
 planned_for r local plan test is planned =
     subst (λ (t : Option VersionTest). IsPlanned r.args.options r.sources.target.inputs.items
     (lists_for r.sources.configs)
-    (restricted_view t (index_view r.args.published_before r.sources.index local)) plan) is planned
+    (restricted_view t (index_view r.args.published_before r.index local)) plan) is planned
 
 -- and one that is refused
 pub unplanned_for : (r : Readings) (local : StoreView) (e : Error) (test : Option VersionTest)
     → test ≡ upgrade_test r
     → IsMemory e ⊎ IsPlanCause r.args.options r.sources.target.inputs.items (lists_for r.sources.configs)
-    (restricted_view test (index_view r.args.published_before r.sources.index local)) e
+    (restricted_view test (index_view r.args.published_before r.index local)) e
     → IsMemory e ⊎ IsPlanCause r.args.options r.sources.target.inputs.items (lists_for r.sources.configs)
     (upgrade_index r local) e
 unplanned_for r local e test is refused =
     subst (λ (t : Option VersionTest). IsMemory e ⊎ IsPlanCause r.args.options
     r.sources.target.inputs.items (lists_for r.sources.configs)
-    (restricted_view t (index_view r.args.published_before r.sources.index local)) e) is refused
+    (restricted_view t (index_view r.args.published_before r.index local)) e) is refused
 
 -- what is said of a workspace that is borrowed
 pub same_workspace : (r : Option (Bor Workspace)) (w : Option Workspace) → option_copied r ≡ w

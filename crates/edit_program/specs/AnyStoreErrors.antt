@@ -12,7 +12,7 @@ use Rattle.edit_sources.specs.declared.config.Config.{Config}
 use Rattle.edit_steps.specs.Errors.{IsSourceError, IsWorkspaceError}
 use Rattle.edit_upgrade.specs.declared.decision.options.Options.{Options}
 use Rattle.edit_program.specs.NoIndex.{no_view}
-use Rattle.edit_program.specs.Planned.{IsPlanCause, to_manifest_request}
+use Rattle.edit_program.specs.Planned.{IsPlanCause, to_request}
 use Rattle.edit_program.specs.declared.set_version_run.set_version_args.SetVersionArgs.{SetVersionArgs}
 use Rattle.edit_program.specs.declared.upgrade_run.upgrade_args.UpgradeArgs.{UpgradeArgs}
 
@@ -36,4 +36,4 @@ pub record IsLookupPlanError (options : Options) (e : Error) : Type 0 where
 -- an error of `looks`: that of reading the manifests and configurations, or that of the plan
 abbrev pub IsLookupsError : UpgradeArgs → List ℕ → Error → Type 0
 IsLookupsError args current e =
-    IsSourceError current (to_manifest_request args) e ⊎ IsLookupPlanError args.options e
+    IsSourceError current (to_request args) e ⊎ IsLookupPlanError args.options e

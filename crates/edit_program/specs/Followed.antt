@@ -1,5 +1,6 @@
 -- The policy that an upgrade follows, and what it changes.
 use Rattle.std.specs.Prelude.{◌≡◌, ◌⊎◌, ℕ, List, Bool, true, false, Option, Some, None, option_map, ⊤}
+use Rattle.std.specs.Global.{Vec}
 use Rattle.edit_base.specs.declared.errors.Error.{Error}
 use Rattle.edit_base.specs.declared.errors.Error.TheVariants as error
 use Rattle.edit_lock.specs.Views.{lock_view}
@@ -13,10 +14,8 @@ use Rattle.edit_policy.specs.Policies.{IsEmpty}
 use Rattle.edit_policy.specs.declared.error.PolicyError.{PolicyError}
 use Rattle.edit_policy.specs.declared.policy.Policy.{Policy}
 use Rattle.edit_sources.specs.Configured.{given}
-use Rattle.edit_sources.specs.declared.published.PublishedBefore.{PublishedBefore}
 use Rattle.edit_steps.specs.Causes.{HasNoIndex}
 use Rattle.edit_steps.specs.Sources.{IsIndexOf}
-use Rattle.edit_steps.specs.declared.upgrade_read.index.IndexSource.{IndexSource}
 use Rattle.edit_steps.specs.declared.upgrade_read.source_request.RustChoice.{RustChoice}
 use Rattle.edit_steps.specs.declared.upgrade_read.source_request.RustChoice.TheVariants as choice
 use Rattle.edit_steps.specs.declared.upgrade_read.sources.Sources.{Sources}
@@ -82,56 +81,29 @@ pub record HasUntimedAge (args : UpgradeArgs) (target : Target) (e : Error) : Ty
 abbrev pub IsUnfollowed : UpgradeArgs → Target → Error → Type 0
 IsUnfollowed args target e = HasPolicyFault args.no_policy target e ⊎ HasUntimedAge args target e
 
--- the same files, with inputs for this Rust version
-pub record AreForRust (version : RustVersion) (own s : Sources) : Type 0 where
-  pub workspace : s.target.workspace ≡ own.target.workspace
-  pub inputs : s.target.inputs.items ≡ all_for_rust version own.target.inputs.items
-  pub documents : s.target.documents ≡ own.target.documents
-  pub configs : s.configs ≡ own.configs
-  pub index : s.index ≡ own.index
+-- inputs for the Rust version of a policy, where it has one and arguments do not say for which; else the
+-- same
+abbrev pub AreForPolicy : RustChoice → Option RustVersion → Vec Input → Vec Input → Type 0
+AreForPolicy choice.Own (Some version) own inputs = inputs.items ≡ all_for_rust version own.items
+AreForPolicy choice.Own None own inputs = inputs ≡ own
+AreForPolicy choice.Ignored version own inputs = inputs ≡ own
+AreForPolicy (choice.Given _) version own inputs = inputs ≡ own
 
--- the same files, with inputs for this Rust version where there is one
-abbrev pub AreForVersion : Option RustVersion → Sources → Sources → Type 0
-AreForVersion None own s = s ≡ own
-AreForVersion (Some version) own s = AreForRust version own s
-
--- the files that were read, with inputs for the Rust version of a policy where arguments do not say for which
-abbrev pub AreForPolicy : RustChoice → Option RustVersion → Sources → Sources → Type 0
-AreForPolicy choice.Own version own s = AreForVersion version own s
-AreForPolicy choice.Ignored version own s = s ≡ own
-AreForPolicy (choice.Given _) version own s = s ≡ own
-
--- what an upgrade with these arguments does with the files that were read: it follows the policy of the
--- manifest in the root
-pub record IsFollowing (args : UpgradeArgs) (own : ReadFiles) (r : Readings) : Type 0 where
-  pub policy : IsFollowed args.no_policy own.sources.target r.policy
-  pub bound : IsBoundBy args.published_before (given args.time) r.policy.min_age r.args.published_before
-  pub merged : IsMerged args r.policy r.args
-  pub sources : AreForPolicy args.rust r.policy.rust_version own.sources r.sources
-  pub lock : r.lock ≡ own.lock
-
--- the same files over another index
-abbrev pub with_index : IndexSource → Sources → Sources
-with_index index s = record s { index = index }
-
--- the given index was read with this bound
-abbrev pub IsIndexBy : Option PublishedBefore → UpgradeArgs → List ℕ → Files → IndexSource → Type 0
-IsIndexBy bound args current files index =
-    IsIndexOf bound files current (given args.index_file) (given args.index_dir) index
-
--- the same readings over the given index, which was read with the bound of their arguments
-pub record AreOverIndex (args : UpgradeArgs) (current : List ℕ) (files : Files) (before r : Readings)
+-- what an upgrade with these arguments makes of the manifests and configurations that were read: it follows
+-- the policy `p` of the manifest in the root, by which it has the arguments `chosen` and the inputs in `s`
+pub record IsFollowing (args : UpgradeArgs) (own s : Sources) (p : Policy) (chosen : UpgradeArgs)
     : Type 0 where
-  pub same : r ≡ record before { sources = with_index r.sources.index before.sources }
-  pub index : IsIndexBy r.args.published_before args current files r.sources.index
+  pub policy : IsFollowed args.no_policy own.target p
+  pub bound : IsBoundBy args.published_before (given args.time) p.min_age chosen.published_before
+  pub merged : IsMerged args p chosen
+  pub inputs : AreForPolicy args.rust p.rust_version own.target.inputs s.target.inputs
+  pub others : s ≡ record own { target = record own.target { inputs = s.target.inputs } }
 
 -- what an upgrade with these arguments may depend on over any store: the policy in some files is followed,
 -- over any index
 pub record AreByPolicy (args : UpgradeArgs) (r : Readings) : Type 0 where
-  pub own : ReadFiles
-  pub followed : Readings
-  pub follows : IsFollowing args own followed
-  pub same : r ≡ record followed { sources = with_index r.sources.index followed.sources }
+  pub own : Sources
+  pub follows : IsFollowing args own r.sources r.policy r.args
 
 -- the given files and the lock file were read, the policy is followed, and the index was read with the bound
 pub record IsReady (args : UpgradeArgs) (current : List ℕ) (home : Option (List ℕ)) (files : Files)
@@ -140,9 +112,10 @@ pub record IsReady (args : UpgradeArgs) (current : List ℕ) (home : Option (Lis
   pub read : IsRead args current home files own.sources
   pub locked : IsLockRead args.to_lockfile files current (given args.lock_file)
       (option_map lock_view own.lock)
-  pub followed : Readings
-  pub follows : IsFollowing args own followed
-  pub over : AreOverIndex args current files followed r
+  pub follows : IsFollowing args own.sources r.sources r.policy r.args
+  pub lock : r.lock ≡ own.lock
+  pub index : IsIndexOf r.args.published_before files current (given args.index_file) (given args.index_dir)
+      r.index
 
 -- the given files and the lock file were read, and the policy of the manifest in the root cannot be followed
 pub record HasBadPolicy (args : UpgradeArgs) (current : List ℕ) (home : Option (List ℕ)) (files : Files)
@@ -161,6 +134,8 @@ pub record HasNoUpgradeIndex (args : UpgradeArgs) (current : List ℕ) (home : O
   pub read : IsRead args current home files own.sources
   pub locked : IsLockRead args.to_lockfile files current (given args.lock_file)
       (option_map lock_view own.lock)
-  pub followed : Readings
-  pub follows : IsFollowing args own followed
+  pub sources : Sources
+  pub policy : Policy
+  pub chosen : UpgradeArgs
+  pub follows : IsFollowing args own.sources sources policy chosen
   pub cause : HasNoIndex files current (given args.index_file) e

@@ -30,28 +30,11 @@ use Rattle.edit_steps.specs.declared.upgrade_read.index.IndexSource.TheVariants 
 use Rattle.edit_program.specs.declared.upgrade_run.following.Readings.{Readings}
 use Rattle.edit_program.specs.declared.upgrade_run.upgrade_args.UpgradeArgs.{UpgradeArgs}
 
--- the files to read, from the arguments
+-- the manifests and configurations to read, from the arguments
 abbrev pub to_request : UpgradeArgs → RequestView
 to_request args = record {
   manifest = given args.manifest_path;
   metadata = given args.metadata_json;
-  index = given args.index_file;
-  index_dir = given args.index_dir;
-  published_before = args.published_before;
-  config = given args.config;
-  default_config = given args.default_config;
-  rust = rust_request args.rust;
-}
-
--- the files to read without an index: before the policy is known, which may bound it, and where only the
--- lookups are requested
-abbrev pub to_manifest_request : UpgradeArgs → RequestView
-to_manifest_request args = record {
-  manifest = given args.manifest_path;
-  metadata = given args.metadata_json;
-  index = None;
-  index_dir = None;
-  published_before = args.published_before;
   config = given args.config;
   default_config = given args.default_config;
   rust = rust_request args.rust;
@@ -77,7 +60,7 @@ upgrade_test r =
 -- the index of an upgrade, restricted to these versions, and to those that were published by the bound
 abbrev pub upgrade_index : Readings → StoreView → IndexView
 upgrade_index r local =
-    restricted_view (upgrade_test r) (index_view r.args.published_before r.sources.index local)
+    restricted_view (upgrade_test r) (index_view r.args.published_before r.index local)
 
 -- an empty cache
 abbrev pub empty_answers : CachedAnswers

@@ -18,7 +18,8 @@ prints_nothing text = ⊥
 -- what was read for a planned upgrade, with these configurations and this index (own)
 abbrev pub readings_of : PlannedUpgrade → SharedConfigs → IndexSource → Readings
 readings_of p configs index = record {
-  sources = record { target = p.target; configs = configs; index = index };
+  sources = record { target = p.target; configs = configs };
+  index = index;
   lock = p.lock;
   policy = p.policy;
   args = p.args;

@@ -15,7 +15,7 @@ use Rattle.edit_program.specs.NoIndex.{no_view}
 use Rattle.edit_steps.specs.Shared.{lists_for}
 use Rattle.edit_steps.specs.Sources.{AreRead}
 use Rattle.edit_steps.specs.declared.upgrade_read.sources.Sources.{Sources}
-use Rattle.edit_program.specs.Planned.{IsPlanned, to_manifest_request}
+use Rattle.edit_program.specs.Planned.{IsPlanned, to_request}
 use Rattle.edit_program.specs.declared.upgrade_run.upgrade_args.UpgradeArgs.{UpgradeArgs}
 
 -- the lines of the lookups that a plan for these inputs makes over an empty index, in the order in which
@@ -33,6 +33,6 @@ pub record AreLookupsPrinted (Prints : List ℕ → Type 0) (args : UpgradeArgs)
     (home : Option (List ℕ)) (files : Files) : Type 0 where
   pub sources : Sources
   pub text : List ℕ
-  pub read : AreRead files current home (to_manifest_request args) sources
+  pub read : AreRead files current home (to_request args) sources
   pub lines : AreLinesOf args.options sources.target.inputs.items (lists_for sources.configs) text
   pub shows : Prints text

@@ -18,7 +18,7 @@ use Rattle.edit_steps.specs.Causes.{HasBadSources, IsFailure}
 use Rattle.edit_steps.specs.Shared.{lists_for}
 use Rattle.edit_steps.specs.Sources.{AreRead}
 use Rattle.edit_steps.specs.declared.upgrade_read.sources.Sources.{Sources}
-use Rattle.edit_program.specs.Planned.{IsPlanCause, to_manifest_request, upgrade_index}
+use Rattle.edit_program.specs.Planned.{IsPlanCause, to_request, upgrade_index}
 use Rattle.edit_program.specs.Run.{Run}
 use Rattle.edit_program.specs.Revising.{IsRevisionError}
 use Rattle.edit_program.specs.Upgrading.{IsPlannedFor, IsPlannedTo}
@@ -48,7 +48,7 @@ pub record HasNoUpgradePlan (args : UpgradeArgs) (current : List ℕ) (home : Op
 abbrev pub IsUnplanned : UpgradeArgs → List ℕ → Option (List ℕ) → StoreView → Files → Error → Type 0
 IsUnplanned args current home local files e =
     HasNoLock args.to_lockfile files current (given args.lock_file) e
-    ⊎ (HasBadSources files current home (to_manifest_request args) e
+    ⊎ (HasBadSources files current home (to_request args) e
     ⊎ ((HasBadPolicy args current home files e ⊎ HasNoUpgradeIndex args current home files e)
     ⊎ HasNoUpgradePlan args current home local files e))
 
@@ -91,8 +91,8 @@ IsUpgradeCause Prints args run e =
 -- empty index does, as for an invalid name
 abbrev pub HasBadLookupInput : UpgradeArgs → List ℕ → Option (List ℕ) → Files → Error → Type 0
 HasBadLookupInput args current home files e =
-    HasBadSources files current home (to_manifest_request args) e
-    ⊎ HasNoPlan args.options (λ s. no_view) (to_manifest_request args) current home files e
+    HasBadSources files current home (to_request args) e
+    ⊎ HasNoPlan args.options (λ s. no_view) (to_request args) current home files e
 
 -- the cause of an error of `looks`: out of memory or a device error, a failed print, or, over any store, one
 -- of the errors of `looks`; where the store says what its files hold, the given files have its cause

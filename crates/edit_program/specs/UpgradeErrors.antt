@@ -10,7 +10,7 @@ use Rattle.edit_store.specs.Store.{StoreView}
 use Rattle.edit_upgrade.specs.declared.upgrade.UpgradePlan.{UpgradePlan}
 use Rattle.edit_program.specs.DeliveryCauses.{IsStopped}
 use Rattle.edit_program.specs.Followed.{AreByPolicy}
-use Rattle.edit_program.specs.Planned.{IsPlanCause, to_manifest_request, upgrade_index}
+use Rattle.edit_program.specs.Planned.{IsPlanCause, to_request, upgrade_index}
 use Rattle.edit_program.specs.Revising.{IsRevisionError}
 use Rattle.edit_program.specs.Run.{Run}
 use Rattle.edit_program.specs.Upgrading.{IsPathOf, IsPlannedFor, IsRevisedFor, delivery_for}
@@ -26,7 +26,7 @@ IsLockFileError required (Some named) e = ((required ≡ true) × (e ≡ NoPath)
 abbrev pub IsFileError : UpgradeArgs → List ℕ → Error → Type 0
 IsFileError args current e =
     IsLockFileError args.to_lockfile (given args.lock_file) e
-    ⊎ IsSourceError current (to_manifest_request args) e
+    ⊎ IsSourceError current (to_request args) e
 
 -- the policy is not ignored, and it is invalid or sets an age without a time from which that counts back
 abbrev pub IsPolicyError : Bool → Error → Type 0

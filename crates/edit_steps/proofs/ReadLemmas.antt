@@ -18,7 +18,7 @@ use Rattle.edit_sources.specs.ConfigurationFiles.{ConfigsFail, IsBadConfig}
 use Rattle.edit_sources.specs.declared.config.Config.{Config}
 use Rattle.edit_store.specs.Store.{Files, OnlyReads, IsCallError, StoreView, IsRaisedCount}
 use Rattle.edit_steps.specs.RequestView.{RequestView}
-use Rattle.edit_steps.specs.Causes.{HasNoIndex, HasNoTarget, IsFailure, IsReadCause, LacksNamed, StopsAtInput}
+use Rattle.edit_steps.specs.Causes.{HasNoTarget, IsFailure, IsReadCause, LacksNamed, StopsAtInput}
 use Rattle.edit_steps.specs.Named.{AreConfigured, AreGathered, ArePairRead, IsUnreadFile, Pair, PathAndBytes}
 use Rattle.edit_steps.specs.Sources.{AreInputsRead}
 
@@ -118,7 +118,7 @@ pub config_cause : (current : List ℕ) (home : Option (List ℕ)) (asking : Req
 config_cause current home asking old mid now new w inputs pair e first second read named (inl refused) =
     inl (inr (refused_on call.Read old now new e (reads-on old mid now first second) refused))
 config_cause current home asking old mid now new w inputs pair e first second read named (inr wrong) =
-    inr (λ t. inr (inr (inl (record {
+    inr (λ t. inr (inr (record {
       workspace = w;
       inputs = inputs;
       pair = pair;
@@ -126,32 +126,4 @@ config_cause current home asking old mid now new w inputs pair e first second re
       named = before (λ files. ArePairRead files current asking pair) old mid first named t;
       cause = before (λ files. StopsAtInput files home pair inputs e) old now
           (reads-on old mid now first second) wrong t;
-    }))))
-
--- an index that is not read after all of these
-pub index_cause : (current : List ℕ) (home : Option (List ℕ)) (asking : RequestView)
-    (old mid now then new : StoreView) (w : Option Workspace) (inputs : List Input) (pair : Pair)
-    (configs : List (Vec Config)) (e : Error) → OnlyReads old mid → OnlyReads mid now → OnlyReads now then
-    → (old.tells ≡ true → AreInputsRead old.file_at current asking w inputs)
-    → (mid.tells ≡ true → ArePairRead mid.file_at current asking pair)
-    → (now.tells ≡ true → AreConfigured now.file_at home pair inputs configs)
-    → IsCallError call.Read then new e ⊎ (then.tells ≡ true → HasNoIndex then.file_at current asking.index e)
-    → IsReadCause current home asking old new e
-index_cause current home asking old mid now then new w inputs pair configs e first second third read named
-    configured (inl refused) =
-    inl (inr (refused_on call.Read old then new e
-    (reads-on old now then (reads-on old mid now first second) third) refused))
-index_cause current home asking old mid now then new w inputs pair configs e first second third read named
-    configured (inr wrong) =
-    let upto : OnlyReads old now = reads-on old mid now first second in
-    inr (λ t. inr (inr (inr (record {
-      workspace = w;
-      inputs = inputs;
-      configs = configs;
-      pair = pair;
-      read = read t;
-      named = before (λ files. ArePairRead files current asking pair) old mid first named t;
-      configured = before (λ files. AreConfigured files home pair inputs configs) old now upto configured t;
-      cause = before (λ files. HasNoIndex files current asking.index e) old then
-          (reads-on old now then upto third) wrong t;
-    }))))
+    })))

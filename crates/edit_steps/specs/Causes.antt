@@ -118,24 +118,11 @@ pub record StopsAtConfigs (files : Files) (current : List ℕ) (home : Option (L
   pub named : ArePairRead files current asking pair
   pub cause : StopsAtInput files home pair inputs e
 
--- the manifests and their configurations were read, and the index cannot be read
-pub record StopsAtIndex (files : Files) (current : List ℕ) (home : Option (List ℕ)) (asking : RequestView)
-    (e : Error) : Type 0 where
-  pub workspace : Option Workspace
-  pub inputs : List Input
-  pub configs : List (Vec Config)
-  pub pair : Pair
-  pub read : AreInputsRead files current asking workspace inputs
-  pub named : ArePairRead files current asking pair
-  pub configured : AreConfigured files home pair inputs configs
-  pub cause : HasNoIndex files current asking.index e
-
--- the cause in the files: the manifests or metadata, else a given configuration file, else a configuration,
--- else the index
+-- the cause in the files: the manifests or metadata, else a given configuration file, else a configuration
 abbrev pub HasBadSources : Files → List ℕ → Option (List ℕ) → RequestView → Error → Type 0
 HasBadSources files current home asking e =
-    HasNoTarget files current asking e ⊎ (StopsAtNamed files current asking e
-    ⊎ (StopsAtConfigs files current home asking e ⊎ StopsAtIndex files current home asking e))
+    HasNoTarget files current asking e
+    ⊎ (StopsAtNamed files current asking e ⊎ StopsAtConfigs files current home asking e)
 
 -- the cause of an error: out of memory, a device error, or the files
 abbrev pub IsReadCause : List ℕ → Option (List ℕ) → RequestView → StoreView → StoreView → Error → Type 0

@@ -44,8 +44,7 @@ abbrev pub IsTargetError : List ℕ → Option (List ℕ) → Option (List ℕ) 
 IsTargetError current None named e = IsManifestError current named e
 IsTargetError current (Some metadata) named e = IsWorkspaceError e
 
--- there is an error of the manifests, of a configuration file or of the index
+-- there is an error of the manifests or of a configuration file
 abbrev pub IsSourceError : List ℕ → RequestView → Error → Type 0
 IsSourceError current asking e =
-    IsTargetError current asking.metadata asking.manifest e
-    ⊎ (IsPairError asking e ⊎ (IsConfigError e ⊎ IsIndexError asking.index e))
+    IsTargetError current asking.metadata asking.manifest e ⊎ (IsPairError asking e ⊎ IsConfigError e)

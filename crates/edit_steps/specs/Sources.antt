@@ -63,20 +63,13 @@ IsIndexOf bound files current None (Some dir) (source.Folder path) =
 IsIndexOf bound files current None None source.Files = ⊤
 IsIndexOf bound files current _ _ _ = ⊥
 
--- the requested index was read
-abbrev pub IsIndexRead : Files → List ℕ → RequestView → IndexSource → Type 0
-IsIndexRead files current asking index =
-    IsIndexOf asking.published_before files current asking.index asking.index_dir index
-
--- all files that an upgrade depends on were read: its manifests, the given configuration files, the
--- configurations of each manifest, and the index
+-- the manifests, the given configuration files, and the configurations of each manifest were read
 pub record AreRead (files : Files) (current : List ℕ) (home : Option (List ℕ)) (asking : RequestView)
     (s : Sources) : Type 0 where
   pub target : IsTargetRead files current asking s.target
   pub pair : Pair
   pub named : ArePairRead files current asking pair
   pub configured : AreConfigured files home pair s.target.inputs.items (lists_for s.configs)
-  pub indexed : IsIndexRead files current asking s.index
 
 -- the requirements of a plan hold: each input has a distinct path, and a list of configurations
 pub record MayBePlanned (s : Sources) : Type 0 where

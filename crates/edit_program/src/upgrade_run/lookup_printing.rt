@@ -77,17 +77,12 @@ pub fn print_lookups<S: Store, O: io::Write>(
     ensures counted { IfErr result (λ r. CountsFault (S.view files.old) (S.view files.new) r.error) }
 {
     let sources = read_sources(alloc, &args.to_lookup_request(), current, cargo_home, files)?;
-    let Sources {
-        target,
-        configs,
-        ..
-    } = sources;
+    let Sources { target, configs } = sources;
     let lines = match lines_for(alloc, &args.options, &target, &configs) {
         Ok(lines) => lines,
         Err(failure) => {
-            let request = args.to_lookup_request();
             let inputs = &target.inputs;
-            return Err(explain_upgrade(alloc, failure, &request, current, inputs, &configs, files));
+            return Err(explain_upgrade(alloc, failure, None, current, inputs, &configs, files));
         }
     };
     shell_write_stdout(out, lines.as_str())?;

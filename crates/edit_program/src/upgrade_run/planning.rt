@@ -55,15 +55,12 @@ pub(crate) fn read_and_plan<'a, S: Store, T: Store + Drop>(
     let readings = read(alloc, args, current, place.cargo_home, files)?;
     let Readings {
         sources,
+        index,
         lock,
         policy,
         args,
     } = readings;
-    let Sources {
-        target,
-        configs,
-        index,
-    } = sources;
+    let Sources { target, configs } = sources;
     let restriction = index_restriction(args.to_lockfile, lock.as_ref(), policy.crates.as_slice());
     let plan = match plan_for(
         alloc,
@@ -76,9 +73,8 @@ pub(crate) fn read_and_plan<'a, S: Store, T: Store + Drop>(
     ) {
         Ok(plan) => plan,
         Err(failure) => {
-            let request = args.to_request();
-            let inputs = &target.inputs;
-            return Err(explain_upgrade(alloc, failure, &request, current, inputs, &configs, files));
+            let (dir, inputs) = (args.index_dir, &target.inputs);
+            return Err(explain_upgrade(alloc, failure, dir, current, inputs, &configs, files));
         }
     };
     let revised = revise(alloc, &args, &target, &configs, plan)?;

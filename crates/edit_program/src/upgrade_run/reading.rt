@@ -1,4 +1,4 @@
-//! Reads the files that an upgrade depends on.
+//! Reads the files that an upgrade depends on, except for its index.
 ghost use Rattle.std.specs.Prelude.{◌≡◌, ◌⊎◌, [], IfErr, IfOk, Some, false, option_map, true};
 ghost use Rattle.edit_base.specs.declared.errors.DeviceCall.TheVariants as call;
 ghost use Rattle.edit_base.specs.declared.errors.Error.TheVariants.{NoPath};
@@ -9,7 +9,7 @@ ghost use Rattle.edit_steps.specs.Faults.{CountsFault};
 ghost use Rattle.edit_steps.specs.Sources.{MayBePlanned};
 ghost use Rattle.edit_store.specs.Store.{OnlyReads, IsCallError};
 ghost use Rattle.edit_program.specs.LockRead.{HasNoLock, IsLockAt, IsLockRead};
-ghost use Rattle.edit_program.specs.Planned.{to_manifest_request};
+ghost use Rattle.edit_program.specs.Planned.{to_request};
 ghost use Rattle.edit_program.specs.Reading.{IsRead};
 ghost use Rattle.edit_program.specs.UpgradeErrors.{IsFileError, IsLockFileError};
 
@@ -21,8 +21,8 @@ use edit_steps::{RunResult, absolute_path, at_file, at_lock, at_path};
 use edit_store::Store;
 use std::alloc::Global;
 
-/// The files that an upgrade depends on, without an index, and the lock file that its calls must be valid
-/// for.
+/// The manifests that an upgrade changes, their configurations, and the lock file that its calls must be
+/// valid for.
 pub(crate) struct ReadFiles {
     pub(crate) sources: Sources,
     pub(crate) lock: Option<Lock>,
@@ -100,8 +100,7 @@ fn read_lock<S: Store>(
     }
 }
 
-/// Reads the given lock file, and then the other files that the upgrade depends on, without an index. No file
-/// changes.
+/// Reads the given lock file, and then the manifests and configurations. No file changes.
 pub(crate) fn read_files<S: Store>(
     alloc: Global,
     args: &UpgradeArgs<'_>,
@@ -117,7 +116,7 @@ pub(crate) fn read_files<S: Store>(
         (option_map lock_view r.lock)) }
     ensures planned { IfOk result (λ r. MayBePlanned r.sources) }
     ensures error { IfErr result (λ r. IsReadCause current.now (given cargo_home.entry)
-        (to_manifest_request args.now) (S.view files.old) (S.view files.new) r.error
+        (to_request args.now) (S.view files.old) (S.view files.new) r.error
         ⊎ ((S.view files.old).tells ≡ true
         → HasNoLock args.now.to_lockfile (S.view files.old).file_at current.now (given args.now.lock_file)
         r.error)) }
@@ -127,12 +126,6 @@ pub(crate) fn read_files<S: Store>(
         ⊎ IsFileError args.now current.now r.error) }
 {
     let lock = read_lock(alloc, args.lock_file, args.to_lockfile, current, files)?;
-    let sources = read_sources(
-        alloc,
-        &args.to_manifest_request(),
-        current,
-        cargo_home,
-        files,
-    )?;
+    let sources = read_sources(alloc, &args.to_request(), current, cargo_home, files)?;
     Ok(ReadFiles { sources, lock })
 }

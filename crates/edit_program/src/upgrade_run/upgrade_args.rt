@@ -1,7 +1,7 @@
 //! The arguments of `upgrade`.
 ghost use Rattle.std.specs.Prelude.{◌≡◌};
 ghost use Rattle.edit_steps.specs.RequestView.{request_view};
-ghost use Rattle.edit_program.specs.Planned.{to_request, to_manifest_request};
+ghost use Rattle.edit_program.specs.Planned.{to_request};
 
 use edit_choice::RowChoice;
 use edit_policy::GivenChoices;
@@ -52,16 +52,13 @@ pub struct UpgradeArgs<'a> {
 }
 
 impl<'a> UpgradeArgs<'a> {
-    /// The files to read.
+    /// The manifests and configurations to read.
     pub(crate) fn to_request(&self) -> SourceRequest<'a>
         ensures { request_view result ≡ to_request self.now }
     {
         SourceRequest {
             manifest_path: self.manifest_path,
             metadata_json: self.metadata_json,
-            index_file: self.index_file,
-            index_dir: self.index_dir,
-            published_before: self.published_before,
             config: self.config,
             default_config: self.default_config,
             rust: self.rust,
@@ -69,24 +66,13 @@ impl<'a> UpgradeArgs<'a> {
         }
     }
 
-    /// The files to read before the policy is known, which may bound the index: no index.
-    pub(crate) fn to_manifest_request(&self) -> SourceRequest<'a>
-        ensures { request_view result ≡ to_manifest_request self.now }
-    {
-        SourceRequest {
-            index_file: None,
-            index_dir: None,
-            ..self.to_request()
-        }
-    }
-
-    /// The files to read where only the lookups are requested: no index.
+    /// The same where only the lookups are requested, so that no file will be written.
     pub(crate) fn to_lookup_request(&self) -> SourceRequest<'a>
-        ensures { request_view result ≡ to_manifest_request self.now }
+        ensures { request_view result ≡ to_request self.now }
     {
         SourceRequest {
             writes: false,
-            ..self.to_manifest_request()
+            ..self.to_request()
         }
     }
 }

@@ -1,9 +1,8 @@
-//! The files that an upgrade is requested to read.
+//! The manifests and configurations that an upgrade is requested to read.
 ghost use Rattle.std.specs.Prelude.{◌≡◌, option_map};
 ghost use Rattle.edit_steps.specs.RequestView.{rust_request};
 ghost use Rattle.edit_version.specs.RustVersions.{numbers_of};
 
-use edit_sources::PublishedBefore;
 use edit_version::RustVersion;
 
 /// The Rust version to plan for.
@@ -38,7 +37,7 @@ impl RustChoice {
     }
 }
 
-/// The files to read. Relative paths start in the current folder.
+/// The manifests and configurations to read. Relative paths start in the current folder.
 #[derive(Clone, Copy, Debug)]
 pub struct SourceRequest<'a> {
     /// A manifest, or a folder from which it is searched upwards; the current folder where `None`. Ignored
@@ -46,12 +45,6 @@ pub struct SourceRequest<'a> {
     pub manifest_path: Option<&'a str>,
     /// The file with the metadata of a workspace.
     pub metadata_json: Option<&'a str>,
-    /// The file with the lines of an index.
-    pub index_file: Option<&'a str>,
-    /// A folder with a folder for each registry. Ignored where an index file is given.
-    pub index_dir: Option<&'a str>,
-    /// The time by which versions in the index file have to be published, where there is one.
-    pub published_before: Option<PublishedBefore>,
     /// A configuration file with the highest precedence.
     pub config: Option<&'a str>,
     /// A configuration file with the lowest precedence.

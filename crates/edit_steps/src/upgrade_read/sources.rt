@@ -1,4 +1,4 @@
-//! The files that an upgrade depends on, as they were read.
+//! The manifests that an upgrade changes, and their configurations.
 ghost use Rattle.std.specs.Prelude.{◌≡◌, ◌⊎◌, IfErr, IfOk, true};
 ghost use Rattle.edit_sources.specs.Configured.{given};
 ghost use Rattle.edit_store.specs.Store.{OnlyReads};
@@ -10,7 +10,6 @@ ghost use Rattle.edit_steps.specs.Sources.{AreRead, MayBePlanned};
 
 use crate::RunResult;
 use crate::upgrade_read::configs::read_configurations;
-use crate::upgrade_read::index::{IndexSource, read_index};
 use crate::upgrade_read::named::read_named;
 use crate::upgrade_read::shared::SharedConfigs;
 use crate::upgrade_read::source_request::SourceRequest;
@@ -18,19 +17,17 @@ use crate::upgrade_read::target::{Target, read_target};
 use edit_store::Store;
 use std::alloc::Global;
 
-/// The files that an upgrade depends on, as they were read.
+/// The manifests that an upgrade changes, and their configurations, as they were read.
 #[derive(Drop)]
 pub struct Sources {
     pub target: Target,
     /// The configurations of the inputs.
     pub configs: SharedConfigs,
-    /// The index to plan over.
-    pub index: IndexSource,
 }
 
-/// Reads the files that an upgrade depends on, in this order: the given metadata with their manifests, else
-/// the nearest manifest; the given configuration files; the configurations of each manifest; the given
-/// index file. Nothing is read from an index folder, and no file changes.
+/// Reads the manifests that an upgrade changes, and their configurations, in this order: the given metadata
+/// with their manifests, else the nearest manifest; the given configuration files; the configurations of each
+/// manifest. No file changes.
 pub fn read_sources<S: Store>(
     alloc: Global,
     request: &SourceRequest<'_>,
@@ -55,17 +52,5 @@ pub fn read_sources<S: Store>(
     let target = read_target(alloc, request, current, files)?;
     let named = read_named(alloc, request, current, files)?;
     let configs = read_configurations(alloc, &named, &target.inputs, cargo_home, files)?;
-    let index = read_index(
-        alloc,
-        request.index_file,
-        request.index_dir,
-        request.published_before,
-        current,
-        files,
-    )?;
-    Ok(Sources {
-        target,
-        configs,
-        index,
-    })
+    Ok(Sources { target, configs })
 }

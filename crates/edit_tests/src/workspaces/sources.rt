@@ -3,7 +3,9 @@ use super::workspaces::{rust_text, with_quotation_marks};
 use crate::assertion_helpers::{error_number_and_text, unfold_lines, unwrap_alloc, unwrap_ok};
 use crate::rows::{TILDES, check_rows};
 use edit_sources::Config;
-use edit_steps::upgrade_read::{IndexSource, RustChoice, SourceRequest, Sources, read_sources};
+use edit_steps::upgrade_read::{
+    IndexSource, RustChoice, SourceRequest, Sources, read_index, read_sources,
+};
 use edit_store::{MemoryStore, Store};
 use edit_version::RustVersion;
 use std::alloc::Global;
@@ -67,9 +69,9 @@ fn inputs_text(rt: &impl Abort, alloc: Global, sources: &Sources) -> String {
 }
 
 /// What was read: the inputs, which index, and how many documents.
-fn sources_text(rt: &impl Abort, alloc: Global, sources: &Sources) -> String {
+fn sources_text(rt: &impl Abort, alloc: Global, sources: &Sources, index: &IndexSource) -> String {
     let inputs = inputs_text(rt, alloc, sources);
-    let index = match &sources.index {
+    let index = match index {
         IndexSource::Files => "files",
         IndexSource::Lines(_) => "a file",
         IndexSource::Folder(path) => path.as_str(),
@@ -95,8 +97,9 @@ fn choice(rt: &impl Abort, alloc: Global, name: Option<&str>) -> RustChoice {
     }
 }
 
-/// The request of a row: its parts name a manifest and metadata; and an index, the choice of a Rust version,
-/// a folder of registries, and the configuration files that count before and after all others.
+/// The request of a row: its parts name a manifest and metadata; and, behind an index, the choice of a Rust
+/// version, and, behind a folder of registries, the configuration files that count before and after all
+/// others.
 fn request_of_row<'a>(
     rt: &impl Abort,
     alloc: Global,
@@ -106,9 +109,6 @@ fn request_of_row<'a>(
     SourceRequest {
         manifest_path: nth(target, 0),
         metadata_json: nth(target, 1),
-        index_file: nth(more, 0),
-        index_dir: nth(more, 2),
-        published_before: None,
         config: nth(more, 3),
         default_config: nth(more, 4),
         rust: choice(rt, alloc, nth(more, 1)),
@@ -116,15 +116,21 @@ fn request_of_row<'a>(
     }
 }
 
-/// Reads the requested files in `/w/a/src`, with the home folder `/h`.
+/// Reads the requested files in `/w/a/src`, with the home folder `/h`, and then the index of a row: a file,
+/// or a folder of registries.
 fn read_result(
     rt: &impl Abort,
     alloc: Global,
     request: &SourceRequest,
+    index: (Option<&str>, Option<&str>),
     store: &mut MemoryStore,
 ) -> String {
-    match read_sources(alloc, request, "/w/a/src", Some("/h"), store) {
-        Ok(sources) => sources_text(rt, alloc, &sources),
+    let sources = match read_sources(alloc, request, "/w/a/src", Some("/h"), store) {
+        Ok(sources) => sources,
+        Err(failure) => return error_number_and_text(rt, alloc, failure.error),
+    };
+    match read_index(alloc, index.0, index.1, None, "/w/a/src", store) {
+        Ok(index) => sources_text(rt, alloc, &sources, &index),
         Err(failure) => error_number_and_text(rt, alloc, failure.error),
     }
 }
@@ -134,7 +140,8 @@ fn read(rt: &impl Abort, alloc: Global, target: &str, more: &str) -> String {
     let mut store = MemoryStore::new(alloc);
     put_files(rt, alloc, &mut store);
     let request = request_of_row(rt, alloc, target, more);
-    read_result(rt, alloc, &request, &mut store)
+    let index = (nth(more, 0), nth(more, 2));
+    read_result(rt, alloc, &request, index, &mut store)
 }
 
 /// Rows: the result; the given manifest and metadata; the index, the Rust version, the folder, and the two

@@ -8,7 +8,7 @@ use Rattle.edit_steps.proofs.ErrorFields.{failure_has, failure_made}
 use Rattle.edit_program.specs.Followed.{IsUnfollowed}
 use Rattle.edit_program.specs.Merging.{IsBoundBy}
 use Rattle.edit_program.proofs.CountLemmas.{error_counts, memory_counts}
-use Rattle.edit_program.proofs.PolicyLemmas.{unfollowed}
+use Rattle.edit_program.proofs.PolicyLemmas.{may_be_planned, unfollowed}
 use Rattle.edit_program.proofs.upgrade_run.following.follow_policy.Goals as goal
 
 pub returns-clause-follows : goal.returns-clause-follows
@@ -16,22 +16,24 @@ returns-clause-follows c = record {
   policy = c.in_ok-policy.ensures.policy;
   bound = subst
       (IsBoundBy c.args.args.now.published_before (given c.args.args.now.time) c.in_ok-policy.policy.min_age)
-      (sym c.in_ok-merged.ensures.bound) c.in_ok-bound.ensures.bound;
-  merged = c.in_ok-merged.ensures.merged;
-  sources = c.in_ok-sources.ensures.sources;
-  lock = refl;
+      (sym c.in_ok-chosen.ensures.bound) c.in_ok-bound.ensures.bound;
+  merged = c.in_ok-chosen.ensures.merged;
+  inputs = c.in_ok-set_rust_version.ensures.inputs;
+  others = refl;
 }
 
 pub returns-clause-planned : goal.returns-clause-planned
-returns-clause-planned c = c.in_ok-sources.ensures.planned c.requires.planned
+returns-clause-planned c =
+    may_be_planned c.args.sources.now c.set_rust_version.new.inputs c.in_ok-set_rust_version.ensures.paths
+    c.in_ok-set_rust_version.ensures.bytes c.requires.planned
 
 pub returns-in_err-policy-clause-error : goal.returns-in_err-policy-clause-error
 returns-in_err-policy-clause-error c =
     let e = c.in_err-policy.field-0.0 in
     failure_has c.from_residual.result e
-    (λ error. IsMemory error ⊎ IsUnfollowed c.args.args.now c.args.own.sources.target error)
+    (λ error. IsMemory error ⊎ IsUnfollowed c.args.args.now c.args.sources.now.target error)
     c.from_residual.ensures.1
-    (unfollowed c.args.args.now c.args.own.sources.target e.error c.in_err-policy.ensures.error)
+    (unfollowed c.args.args.now c.args.sources.now.target e.error c.in_err-policy.ensures.error)
 
 pub returns-in_err-policy-clause-counted : goal.returns-in_err-policy-clause-counted
 returns-in_err-policy-clause-counted c =
@@ -42,7 +44,7 @@ returns-in_err-policy-clause-counted c =
 pub returns-in_err-bound-clause-error : goal.returns-in_err-bound-clause-error
 returns-in_err-bound-clause-error c =
     failure_has c.from_residual-in_err-bound.result c.in_err-bound.field-0.0
-    (λ error. IsMemory error ⊎ IsUnfollowed c.args.args.now c.args.own.sources.target error)
+    (λ error. IsMemory error ⊎ IsUnfollowed c.args.args.now c.args.sources.now.target error)
     c.from_residual-in_err-bound.ensures.1
     (inr (inr (record {
       policy = c.in_ok-policy.policy;
@@ -58,24 +60,24 @@ returns-in_err-bound-clause-counted c =
     c.from_residual-in_err-bound.ensures.1
     (error_counts e.error error_kind.Policy c.in_err-bound.ensures.error.1 (λ n. cc n))
 
-pub returns-in_err-merged-clause-error : goal.returns-in_err-merged-clause-error
-returns-in_err-merged-clause-error c =
-    failure_made c.from_residual-in_err-merged.result Memory
-    (λ error. IsMemory error ⊎ IsUnfollowed c.args.args.now c.args.own.sources.target error)
-    c.from_residual-in_err-merged.ensures.1 (inl refl)
+pub returns-in_err-chosen-clause-error : goal.returns-in_err-chosen-clause-error
+returns-in_err-chosen-clause-error c =
+    failure_made c.from_residual-in_err-chosen.result Memory
+    (λ error. IsMemory error ⊎ IsUnfollowed c.args.args.now c.args.sources.now.target error)
+    c.from_residual-in_err-chosen.ensures.1 (inl refl)
 
-pub returns-in_err-merged-clause-counted : goal.returns-in_err-merged-clause-counted
-returns-in_err-merged-clause-counted c =
-    failure_made c.from_residual-in_err-merged.result Memory (λ error. number_of error ≢ 3)
-    c.from_residual-in_err-merged.ensures.1 (memory_counts Memory refl)
+pub returns-in_err-chosen-clause-counted : goal.returns-in_err-chosen-clause-counted
+returns-in_err-chosen-clause-counted c =
+    failure_made c.from_residual-in_err-chosen.result Memory (λ error. number_of error ≢ 3)
+    c.from_residual-in_err-chosen.ensures.1 (memory_counts Memory refl)
 
-pub returns-in_err-sources-clause-error : goal.returns-in_err-sources-clause-error
-returns-in_err-sources-clause-error c =
-    failure_made c.from_residual-in_err-sources.result Memory
-    (λ error. IsMemory error ⊎ IsUnfollowed c.args.args.now c.args.own.sources.target error)
-    c.from_residual-in_err-sources.ensures.1 (inl refl)
+pub returns-in_err-set_rust_version-clause-error : goal.returns-in_err-set_rust_version-clause-error
+returns-in_err-set_rust_version-clause-error c =
+    failure_made c.from_residual-in_err-set_rust_version.result Memory
+    (λ error. IsMemory error ⊎ IsUnfollowed c.args.args.now c.args.sources.now.target error)
+    c.from_residual-in_err-set_rust_version.ensures.1 (inl refl)
 
-pub returns-in_err-sources-clause-counted : goal.returns-in_err-sources-clause-counted
-returns-in_err-sources-clause-counted c =
-    failure_made c.from_residual-in_err-sources.result Memory (λ error. number_of error ≢ 3)
-    c.from_residual-in_err-sources.ensures.1 (memory_counts Memory refl)
+pub returns-in_err-set_rust_version-clause-counted : goal.returns-in_err-set_rust_version-clause-counted
+returns-in_err-set_rust_version-clause-counted c =
+    failure_made c.from_residual-in_err-set_rust_version.result Memory (λ error. number_of error ≢ 3)
+    c.from_residual-in_err-set_rust_version.ensures.1 (memory_counts Memory refl)

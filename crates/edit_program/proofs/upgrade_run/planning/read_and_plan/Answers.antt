@@ -124,7 +124,7 @@ returns-clause-planned g c =
     c.as_ref.ensures.value c.as_slice.ensures.value c.index_restriction-restriction.ensures in
     record {
       configs = r.sources.configs;
-      index = r.sources.index;
+      index = r.index;
       single = c.in-Ok.plan;
       ready = c.in_ok-readings.ensures.ready;
       by_policy = c.in_ok-readings.ensures.by_policy;

@@ -9,10 +9,9 @@ use Rattle.edit_metadata.proofs.InputLemmas.{reads-on}
 use Rattle.edit_steps.proofs.ReadLemmas.{before}
 use Rattle.edit_steps.specs.Named.{AreConfigured, ArePairRead, pair_of}
 use Rattle.edit_steps.specs.Shared.{lists_for}
-use Rattle.edit_steps.specs.Sources.{IsIndexRead}
-use Rattle.edit_steps.proofs.ReadLemmas.{config_cause, index_cause, named_cause, target_cause}
+use Rattle.edit_steps.proofs.ReadLemmas.{config_cause, named_cause, target_cause}
 use Rattle.edit_steps.proofs.ErrorLemmas.{part_error, wider, counted_on}
-use Rattle.edit_steps.specs.Errors.{IsConfigError, IsIndexError, IsPairError, IsSourceError, IsTargetError}
+use Rattle.edit_steps.specs.Errors.{IsConfigError, IsPairError, IsSourceError, IsTargetError}
 use Rattle.edit_steps.specs.Faults.{CountsFault}
 use Rattle.edit_steps.proofs.upgrade_read.sources.read_sources.Goals as goal
 
@@ -50,27 +49,11 @@ returns-in_err-configs-clause-error g c =
     (pair_of c.in_ok-named.named) is c.in_err-configs.field-0.0.error)) c.deref.ensures.value
     c.in_err-configs.ensures.error))
 
-pub returns-in_err-index-clause-error : goal.returns-in_err-index-clause-error
-returns-in_err-index-clause-error g c =
-    failure_has c.from_residual-in_err-index.result c.in_err-index.field-0.0 _
-    c.from_residual-in_err-index.ensures.1
-    (index_cause c.args.current.now (given c.args.cargo_home) (request_view c.args.request.now)
-    (g.S.Store.view c.args.files.now) (g.S.Store.view c.read_target.new.files)
-    (g.S.Store.view c.read_named.new.files) (g.S.Store.view c.read_configurations.new.files)
-    (g.S.Store.view c.read_index.new.files) c.in_ok-target.target.workspace
-    c.in_ok-target.target.inputs.items (pair_of c.in_ok-named.named) (lists_for c.in_ok-configs.configs)
-    c.in_err-index.field-0.0.error c.in_ok-target.ensures.store c.in_ok-named.ensures.store
-    c.in_ok-configs.ensures.store c.in_ok-target.ensures.read c.in_ok-named.ensures.read
-    (λ t. subst (λ is. AreConfigured (g.S.Store.view c.read_named.new.files).file_at
-    (given c.args.cargo_home) (pair_of c.in_ok-named.named) is (lists_for c.in_ok-configs.configs))
-    c.deref.ensures.value (c.in_ok-configs.ensures.read t)) c.in_err-index.ensures.error)
-
 pub returns-clause-read : goal.returns-clause-read
 returns-clause-read g c = λ t.
     let old = g.S.Store.view c.args.files.now in
     let found = g.S.Store.view c.read_target.new.files in
     let named = g.S.Store.view c.read_named.new.files in
-    let all = g.S.Store.view c.read_configurations.new.files in
     let current = c.args.current.now in
     let home = given c.args.cargo_home in
     let asking = request_view c.args.request.now in
@@ -86,8 +69,6 @@ returns-clause-read g c = λ t.
       configured = before (λ files. AreConfigured files home pair c.in_ok-target.target.inputs.items configs)
           old named upto (λ u. subst (λ is. AreConfigured named.file_at home pair is configs)
           c.deref.ensures.value (c.in_ok-configs.ensures.read u)) t;
-      indexed = before (λ files. IsIndexRead files current asking c.in_ok-index.index) old all
-          (reads-on old named all upto c.in_ok-configs.ensures.store) c.in_ok-index.ensures.read t;
     }
 
 pub returns-in_err-target-clause-only : goal.returns-in_err-target-clause-only
@@ -119,22 +100,7 @@ returns-in_err-configs-clause-only g c =
     (part_error old mid (g.S.Store.view c.read_configurations.new.files) c.args.current.now
     (request_view c.args.request.now) e (IsConfigError e)
     (reads-on old (g.S.Store.view c.read_target.new.files) mid c.in_ok-target.ensures.store
-    c.in_ok-named.ensures.store) (λ error. inr (inr (inl error))) c.in_err-configs.ensures.only)
-
-pub returns-in_err-index-clause-only : goal.returns-in_err-index-clause-only
-returns-in_err-index-clause-only g c =
-    let old = g.S.Store.view c.args.files.now in
-    let mid = g.S.Store.view c.read_named.new.files in
-    let now = g.S.Store.view c.read_configurations.new.files in
-    let asking = request_view c.args.request.now in
-    let e = c.in_err-index.field-0.0.error in
-    let upto : OnlyReads old mid = reads-on old (g.S.Store.view c.read_target.new.files) mid
-    c.in_ok-target.ensures.store c.in_ok-named.ensures.store in
-    failure_has c.from_residual-in_err-index.result c.in_err-index.field-0.0 _
-    c.from_residual-in_err-index.ensures.1
-    (part_error old now (g.S.Store.view c.read_index.new.files) c.args.current.now asking e
-    (IsIndexError asking.index e) (reads-on old mid now upto c.in_ok-configs.ensures.store)
-    (λ error. inr (inr (inr error))) c.in_err-index.ensures.only)
+    c.in_ok-named.ensures.store) (λ error. inr (inr error)) c.in_err-configs.ensures.only)
 
 pub returns-in_err-configs-clause-counted : goal.returns-in_err-configs-clause-counted
 returns-in_err-configs-clause-counted g c =
@@ -146,16 +112,3 @@ returns-in_err-configs-clause-counted g c =
     (counted_on old mid new c.in_err-configs.field-0.0.error
     (reads-on old (g.S.Store.view c.read_target.new.files) mid c.in_ok-target.ensures.store
     c.in_ok-named.ensures.store) c.in_err-configs.ensures.counted)
-
-pub returns-in_err-index-clause-counted : goal.returns-in_err-index-clause-counted
-returns-in_err-index-clause-counted g c =
-    let old = g.S.Store.view c.args.files.now in
-    let mid = g.S.Store.view c.read_named.new.files in
-    let now = g.S.Store.view c.read_configurations.new.files in
-    let new = g.S.Store.view c.read_index.new.files in
-    let upto : OnlyReads old mid = reads-on old (g.S.Store.view c.read_target.new.files) mid
-    c.in_ok-target.ensures.store c.in_ok-named.ensures.store in
-    failure_has c.from_residual-in_err-index.result c.in_err-index.field-0.0 (λ e. CountsFault old new e)
-    c.from_residual-in_err-index.ensures.1
-    (counted_on old now new c.in_err-index.field-0.0.error (reads-on old mid now upto
-    c.in_ok-configs.ensures.store) c.in_err-index.ensures.counted)
