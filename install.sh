@@ -17,8 +17,8 @@ PATH, cargo finds `cargo upgrade` and `cargo set-version`.
 The second removes what the first has put there, and nothing else.
 
   --force         replaces a cargo-upgrade or cargo-set-version of another origin
-  --from-source   proves and builds the program from the sources here (needs rt, Rattle's toolchain; about an hour)
-                  and installs that in place of the released program
+  --from-source   proves and builds the program from the sources here (needs rt, Rattle's toolchain, and Python 3;
+                  about an hour) and installs that in place of the released program
 END
 }
 
@@ -115,6 +115,7 @@ if [ -f "$here/SHA256SUMS" ]; then
     program=$here/bin/cargo-edit
     origin="the released program"
 elif [ -n "$source" ]; then
+    command -v python3 > /dev/null || fail "--from-source needs python3 on PATH"
     export CARGO_EDIT_FROM_SOURCE=1
     program=$("$here/tools/program")
     origin=$("$here/tools/program" --describe)
@@ -130,6 +131,21 @@ else
 fi
 "$program" --version > /dev/null 2>&1 \
     || fail "$program does not run here: it needs x86-64 Linux with glibc 2.34 or later"
+
+# The scripts, and in $room/share what goes into PREFIX/share: parts of the scripts, and what is made of the program's help.
+files=$here made=''
+if [ -n "$source" ]; then
+    "$here/tools/share_files" "$program" "$room/share" || fail "$here/tools/share_files failed, as it says above"
+elif [ ! -f "$here/SHA256SUMS" ]; then
+    # (a tarball has all of it in share/)
+    made=$here/release/share
+    # Where release/ has scripts of its own, its program is older than those beside it here and needs them.
+    [ ! -d "$here/release/bin" ] || files=$here/release
+fi
+mkdir -p "$room/share"
+for it in "$files/share" ${made:+"$made"}; do
+    try "$it cannot be read" cp -R "$it/." "$room/share"
+done
 
 # A command of another origin is replaced only with --force.
 for it in cargo-edit cargo-upgrade cargo-set-version; do
@@ -177,15 +193,12 @@ begin_list() {
     exit 1
 }
 undo="; what was put there so far is removed by: '$here/install.sh' uninstall '$prefix'"
-# Where release/ has scripts of its own, its program is older than those beside it here and needs them.
-files=$here
-[ -n "$source" ] || [ ! -d "$here/release/bin" ] || files=$here/release
 put 755 "$program" bin/cargo-edit
 put 755 "$files/bin/cargo-upgrade" bin/cargo-upgrade
 put 755 "$files/bin/cargo-set-version" bin/cargo-set-version
-(cd "$files/share" && find . -type f | sort) > "$room/files"
+(cd "$room/share" && find . -type f | sort) > "$room/files"
 while IFS= read -r file; do
-    put 644 "$files/share/${file#./}" "share/${file#./}"
+    put 644 "$room/share/${file#./}" "share/${file#./}"
 done < "$room/files"
 printf '%s\n%s\n' "$("$program" --version)" "$origin" > "$room/origin"
 put 644 "$room/origin" "${list%/*}/origin"

@@ -2,7 +2,8 @@
 # dist.sh DIR [PROGRAM]   writes DIR/cargo-edit-VERSION-MACHINE.tar.gz and, beside it, its checksum in .sha256: the commands,
 # shell completions, man pages, README, changelog, documents, licences, the checksum of each file, and install.sh. Unpacked,
 # bin/ runs as it is, on x86-64 Linux with glibc 2.34 or later. PROGRAM is the built program; without one it is the released
-# one. The same files give the same bytes, whoever runs this. Needs GNU tar.
+# one. The completions, man pages and help are those of release/share, or, for a PROGRAM, are made of it by tools/share_files,
+# which needs Python 3. The same files give the same bytes, whoever runs this. Needs GNU tar.
 set -eu
 LC_ALL=C
 export LC_ALL
@@ -20,13 +21,19 @@ name=cargo-edit-$version-x86_64-linux
 room=$(mktemp -d)
 trap 'rm -rf "$room"' EXIT
 top=$room/$name
-mkdir -p "$top/bin"
+mkdir -p "$top/bin" "$top/share"
 cp "$program" "$top/bin/cargo-edit"
 files=$here
-# (where release/ has scripts of its own, its program is older than the others and needs them)
-[ $# -eq 2 ] || [ ! -d "$here/release/bin" ] || files=$here/release
+if [ $# -eq 2 ]; then
+    "$here/tools/share_files" "$program" "$top/share"
+else
+    cp -R "$here/release/share" "$top"
+    # (where release/ has scripts of its own, its program is older than the others and needs them)
+    [ ! -d "$here/release/bin" ] || files=$here/release
+fi
 cp "$files/bin/cargo-upgrade" "$files/bin/cargo-set-version" "$top/bin"
-cp -R "$files/share" "$here/docs" "$top"
+cp -R "$files/share/." "$top/share"
+cp -R "$here/docs" "$top"
 cp "$here/README.md" "$here/CHANGELOG.md" "$here/SECURITY.md" "$here/LICENSE-APACHE" "$here/LICENSE-MIT" "$here/install.sh" "$top"
 find "$top" -type f -exec chmod 644 {} +
 chmod 755 "$top/install.sh" "$top"/bin/*

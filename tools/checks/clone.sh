@@ -23,7 +23,7 @@ if [ ! -f release/SOURCES ] || [ "$(head -n 1 release/SOURCES)" != "$(tools/sour
   rm -rf release/bin release/share
   cp "$program" release/cargo-edit
   tools/sources > release/SOURCES
-  (cd release && sha256sum cargo-edit SOURCES TOOLCHAIN > SHA256SUMS)
+  tools/release --share
 fi
 
 # The tools of the system and the cargo of PATH (where it is rustup's, the one that rustup runs), and nothing else.
@@ -88,8 +88,16 @@ both() { # what the two commands do in a project
   has Cargo.lock 'version = "0.2.0"'
   again
 }
+helps() { # the help of the commands is the one that was released
+  local command
+  for command in upgrade set-version; do
+    runs 0 "cargo-$command" --help
+    cmp "$room/out" "$room/clone/release/share/cargo-edit/$command.help"
+  done
+}
 extra=$room/clone/bin
 both
+helps
 
 extra=
 runs 0 "$room/clone/install.sh" --help
@@ -106,9 +114,22 @@ says 'is not on PATH'
 says 'release/cargo-edit is as it was released, and was made from the sources as they stand here'
 [ "$(stat -c %a "a prefix/bin/cargo-upgrade" "a prefix/share/man/man1" "a prefix/bin/cargo-edit" | sort -u)" = 755 ] || fails 'modes'
 cmp "a prefix/bin/cargo-edit" clone/release/cargo-edit
+as_released() { # PREFIX SCRIPTS: PREFIX/share has the parts of the scripts in SCRIPTS/share, and what was released
+  (cd "$room/clone" && find release/share "$2/share" -type f | sed "s|^release/share/||;s|^$2/share/||" | sort -u) > "$room/wanted"
+  (cd "$1/share" && find . -type f ! -name installed ! -name origin | sed 's|^\./||' | sort) | diff "$room/wanted" - || fails 'other files'
+  while IFS= read -r file; do
+    case $file in
+      *.sh) cmp "$room/clone/$2/share/$file" "$1/share/$file" ;;
+      *) cmp "$room/clone/release/share/$file" "$1/share/$file" ;;
+    esac
+  done < "$room/wanted"
+  for file in cargo-upgrade cargo-set-version; do cmp "$room/clone/$2/bin/$file" "$1/bin/$file"; done
+}
+as_released "$room/a prefix" .
 cd ws
 extra="$room/a prefix/bin"
 both
+helps
 
 # a program that is not the released one is neither run nor installed, and it is said where the sources are others
 extra=
@@ -122,13 +143,62 @@ says 'clone/release/cargo-edit is not as it was released; nothing was installed'
 runs 1 "$room/clone/install.sh" "$room/changed"
 says 'release/SHA256SUMS does not have the checksum of cargo-edit'
 [ ! -e "$room/changed" ] || fails 'something was installed'
-rm -rf "$room/clone/release"
-cp -R "$room/released" "$room/clone/release"
+again_released() { rm -rf "$room/clone/release" && cp -R "$room/released" "$room/clone/release"; }
+again_released
+echo changed >> "$room/clone/release/share/man/man1/cargo-upgrade.1"
+runs 1 "$room/clone/install.sh" "$room/changed"
+says 'clone/release/share/man/man1/cargo-upgrade.1 is not as it was released; nothing was installed'
+[ ! -e "$room/changed" ] || fails 'something was installed'
+again_released
 cp "$room/clone/crates.txt" "$room/crates.txt"
 echo '# a line' >> "$room/clone/crates.txt"
 runs 0 "$room/clone/install.sh" "$room/newer"
 says 'note: release/cargo-edit was made from other sources than those here'
 cp "$room/crates.txt" "$room/clone/crates.txt"
+
+# scripts that were kept for the released program are run, installed and packed in place of newer ones
+cd "$room/clone"
+runs 0 tools/release --keep-scripts
+runs 1 tools/release --keep-scripts
+says 'release/bin is there'
+mkdir "$room/first-scripts"
+cp -R bin share "$room/first-scripts"
+sed -i '/exec "$old"/aecho newer; exit 1' bin/cargo-upgrade bin/cargo-set-version
+for file in share/cargo-edit/*.sh; do printf 'echo newer\nexit 1\n' > "$file"; done
+! cmp -s bin/cargo-upgrade "$room/first-scripts/bin/cargo-upgrade" || fails 'the script is not changed'
+cd "$room/ws"
+extra=$room/clone/bin
+both
+helps
+extra=
+runs 0 "$room/clone/install.sh" "$room/kept"
+as_released "$room/kept" release
+runs 0 "$room/clone/tools/dist.sh" "$room/packed"
+mkdir "$room/unpacked"
+tar -xzf "$room/packed"/*.tar.gz -C "$room/unpacked" --strip-components=1
+as_released "$room/unpacked" release
+cd "$room/clone"
+cp -R "$room/first-scripts/." .
+again_released
+runs 0 tools/dist.sh "$room/packed"
+rm -r "$room/unpacked/share"
+tar -xzf "$room/packed"/*.tar.gz -C "$room/unpacked" --strip-components=1
+as_released "$room/unpacked" .
+
+# with --from-source the scripts are those that are here, and the rest is made of the built program
+step='install.sh --from-source'
+mkdir -p build "$room/kit"
+printf '#!/bin/sh\necho a kit\n' > "$room/kit/rt"
+chmod +x "$room/kit/rt"
+cp release/cargo-edit build/cargo-edit
+echo "$(tools/sources) a kit" > build/made-from
+rm -r release
+extra="$room/kit:$(dirname "$(command -v python3)")"
+runs 0 ./install.sh --from-source "$room/built"
+says 'proved and built from the sources of this clone'
+again_released
+as_released "$room/built" .
+rm -r build
 
 # what failed in the middle is taken back by `uninstall`, and what failed before it leaves nothing
 mkdir -p "$room/half/share" "$room/none"

@@ -1,8 +1,8 @@
 #!/usr/bin/env bash
 # release.sh PROGRAM   release/ is whole, and PROGRAM, which the gate built, is the released one byte for byte where both were
 # made from the same sources by the same toolchain. In a copy, a released program of which one byte differs is found by its
-# checksum, and, with a checksum that fits it, by the comparison. A release is made only where a verdict is kept of each
-# mutant over its sources, or CI tried each.
+# checksum, and, with a checksum that fits it, by the comparison; a changed man page and one without a checksum are found too.
+# A release is made only where a verdict is kept of each mutant over its sources, or CI tried each.
 set -eu -o pipefail
 export LC_ALL=C
 here=$(cd "$(dirname "$0")/../.." && pwd)
@@ -76,6 +76,19 @@ for crate in kit.rtlib.crates_below(os.getcwd()):
 END
 python3 "$room/keep.py"
 says 0 'release: cargo-edit' make
+says 0 'the sources give the released program, byte for byte'
+# with it, the completions, man pages and help that are made of the program
+tools/share_files --check release/cargo-edit release/share
+page=release/share/man/man1/cargo-upgrade.1
+cp "$page" "$room/page"
+echo more >> "$page"
+says 1 'a file of release/ is not the one that its checksum is of'
+tools/release --share
+cmp "$room/page" "$page"
+touch release/share/man/man1/other.1
+says 1 'a file of release/ has no checksum'
+tools/release --share
+[ ! -e release/share/man/man1/other.1 ] || { echo "release.sh: a page of no command stays"; exit 1; }
 says 0 'the sources give the released program, byte for byte'
 tools/sources --crates | diff - <(tail -n +2 release/SOURCES)
 [ "$(head -n 1 release/SOURCES)" = "$(tools/sources)" ]
