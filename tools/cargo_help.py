@@ -109,12 +109,19 @@ def with_more(name, page):
     return help_text.Help(page.about, page.usage, page.sections + [("", [], more)])
 
 
+def is_of(page, text):
+    """Whether a page has each option that a text names. What names one that the program does not have yet is left out."""
+    flags = {flag for entry in page.options for flag in entry.flags}
+    return set(re.findall(r"(?<![\w-])--?[a-z][\w-]*", text)) <= flags
+
+
 def with_places(name, page):
     """The same with the files and the environment that count, for a man page."""
     files = [help_text.Entry(*it) for it in FILES if name == "upgrade" or "Cached" not in it[1]]
     environment = [help_text.Entry(*it) for it in ENVIRONMENT if name == "upgrade" or it[0] in SHARED]
-    examples = [help_text.Entry(*it) for it in EXAMPLES[name]]
-    policy = [("Policy", [], POLICY)] if name == "upgrade" else []
+    examples = [help_text.Entry(*it) for it in EXAMPLES[name] if is_of(page, it[0])]
+    lines = [it for it in POLICY.split("\n") if is_of(page, it)]
+    policy = [("Policy", [], "\n".join(lines))] if name == "upgrade" else []
     more = [("Examples", examples, "")] + policy + [("Files", files, ""), ("Environment", environment, "")]
     return help_text.Help(page.about, page.usage, page.sections + more)
 

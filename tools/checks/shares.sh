@@ -1,10 +1,10 @@
 #!/usr/bin/env bash
 # shares.sh PROGRAM   the completions, man pages and help of release/share are what tools/share_files makes of the released
 # program, and share/ has scripts alone. What it makes of PROGRAM is well-formed: each shell that is on PATH reads its
-# completions, and `man` the pages without a warning.
+# completions, and `man` the pages without a warning. It has nothing about an option that PROGRAM lacks.
 set -eu -o pipefail
-here=$(cd "$(dirname "$0")/../.." && pwd)
-cd "$here"
+program=$(readlink -f -- "$1")
+cd "$(dirname "$0")/../.."
 fails() { echo "shares.sh: $1"; exit 1; }
 tools/share_files --check release/cargo-edit release/share || fails 'run tools/release --share'
 others=$(find share -type f ! -name '*.sh')
@@ -12,16 +12,23 @@ others=$(find share -type f ! -name '*.sh')
 
 room=$(mktemp -d)
 trap 'rm -rf "$room"' EXIT
-tools/share_files "$1" "$room/share"
-tools/share_files --check "$1" "$room/share"
+tools/share_files "$program" "$room/share"
+tools/share_files --check "$program" "$room/share"
 # a file that differs, one that is missing, and one more are found
 cp -R "$room/share" "$room/other"
 echo more >> "$room/other/man/man1/cargo-edit.1"
 rm "$room/other/cargo-edit/upgrade.help"
 touch "$room/other/cargo-edit/add.help" "$room/other/cargo-edit/part.sh"
-! tools/share_files --check "$1" "$room/other" > "$room/out" || fails 'no difference is found'
+! tools/share_files --check "$program" "$room/other" > "$room/out" || fails 'no difference is found'
 printf '%s\n' "$room/other/cargo-edit/add.help is not made of the program's help" "$room/other/cargo-edit/upgrade.help is missing" \
   "$room/other/man/man1/cargo-edit.1 differs" | diff - "$room/out"
+
+# an option that the program does not have yet
+printf '#!/bin/sh\n"%s" "$@" | grep -v -e --min-age\n' "$program" > "$room/older"
+chmod +x "$room/older"
+tools/share_files "$room/older" "$room/without"
+grep -q -r 'min.*-age' "$room/share" || fails 'there is nothing about --min-age'
+! grep -r 'min.*-age' "$room/without" || fails 'an option is shown that the program does not have'
 
 cd "$room/share"
 reads() { # COMMAND .. FILE: its status is 0, and it prints no error
