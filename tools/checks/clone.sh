@@ -198,6 +198,16 @@ runs 0 ./install.sh --from-source "$room/built"
 says 'proved and built from the sources of this clone'
 again_released
 as_released "$room/built" .
+# (a built program that has an option less)
+printf '#!/bin/sh\n"%s" "$@" | grep -v -e --min-age\n' "$program" > build/cargo-edit
+runs 0 ./install.sh --from-source "$room/less"
+for file in share/man/man1/cargo-upgrade.1 share/cargo-edit/upgrade.help; do
+  has "$room/built/$file" never
+  has "$room/less/$file" never
+  ! cmp -s "$room/built/$file" "$room/less/$file" || fails "$file is not made of the built program"
+done
+runs 0 env CARGO_EDIT_FROM_SOURCE=1 bin/cargo-upgrade --help
+cmp "$room/out" "$room/less/share/cargo-edit/upgrade.help"
 rm -r build
 
 # what failed in the middle is taken back by `uninstall`, and what failed before it leaves nothing
