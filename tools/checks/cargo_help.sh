@@ -1,6 +1,6 @@
 #!/usr/bin/env bash
 # cargo_help.sh PROGRAM   the help, man pages and completions of `cargo upgrade` and `cargo set-version` are those of these
-# commands: with --offline, without what only `cargo-edit` takes.
+# commands: with --offline, without what only `cargo-edit` takes. The documents have each option of the help.
 # shellcheck source-path=SCRIPTDIR source=../cargo_checks/lib.sh
 . "$(dirname "$0")/../cargo_checks/lib.sh"
 begin "$1"
@@ -23,6 +23,23 @@ row_help() {
   done
   run 0 upgrade --help
   has "$room/out" 'cargo --config'
+}
+row_documents() {
+  local command page names name found
+  for command in upgrade set-version; do
+    page=$here/docs/${command^^}.md
+    run 0 "$command" --help
+    sed -n -E 's/^ +(-[a-zA-Z], )?(--[a-z-]+).*/\1\2/p' "$room/out" > "$room/options"
+    [ "$(wc -l < "$room/options")" -ge 15 ] || fail "no options in the help of cargo $command"
+    while IFS= read -r names; do
+      case $names in *--help | *--version) continue ;; esac
+      found=
+      for name in ${names//,/}; do
+        ! grep -q -E -- "\`${name}[\` ]" "$page" "$here/docs/SCRIPTING.md" || found=yes
+      done
+      [ -n "$found" ] || fail "$page and SCRIPTING.md have no $names"
+    done < "$room/options"
+  done
 }
 row_man_pages() {
   local command section
