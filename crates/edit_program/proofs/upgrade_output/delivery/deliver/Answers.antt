@@ -63,11 +63,11 @@ returns-clause-content g c =
     on_ok_weaker c.conclude.result
     (λ notes. Appends-trans a b e _ _ c.in_ok-print_plan.ensures.checks
     (Appends-trans b d e _ _
-    (subst (Appends b d) (c.as_slice.ensures.value ∙ c.in_ok-statuses.ensures
+    (subst (Appends b d) (c.as_str.ensures.value ∙ c.in_ok-statuses.ensures
     ∙ ap call_statuses (lent_calls task.lock task.offline _ _ _ _ c.as_slice-calls.ensures.value
     c.in_ok-made.ensures c.in_ok-due.ensures.calls))
     c.in_ok-carry_out.ensures.text)
-    (subst (Appends d e) (c.as_slice-2.ensures.value ∙ c.in_ok-notes.ensures) notes)))
+    (subst (Appends d e) (c.as_slice.ensures.value ∙ c.in_ok-notes.ensures.text) notes)))
     c.conclude.ensures.text
 
 pub returns-clause-cause : goal.returns-clause-cause
