@@ -66,8 +66,14 @@ fn cause(alloc: Global, target: &TargetVersion, root: &str, second: &str) -> Car
 }
 
 /// Compares what caused the error of the plan that sets this version with what is expected.
-fn check_cause(rt: &impl Abort, version: Version, root: &str, second: &str, expected: &str) {
-    let alloc = rt.alloc();
+fn check_cause(
+    rt: &impl Abort,
+    alloc: Global,
+    version: Version,
+    root: &str,
+    second: &str,
+    expected: &str,
+) {
     let target = TargetVersion::Absolute(version);
     let found = unwrap_ok(rt, cause(alloc, &target, root, second));
     check_result(rt, second, found.as_str(), expected);
@@ -75,6 +81,7 @@ fn check_cause(rt: &impl Abort, version: Version, root: &str, second: &str, expe
 
 #[test]
 fn causes_of_version_errors(rt: HostRuntime) {
+    let alloc = rt.alloc();
     let shared =
         "[workspace]\nmembers = [\"a\", \"b\"]\n[workspace.package]\nversion = \"3.0.0\"\n";
     let inherits = "[package]\nname = \"b\"\nversion.workspace = true\n";
@@ -83,14 +90,23 @@ fn causes_of_version_errors(rt: HostRuntime) {
         "[package]\nname = \"b\"\nversion = \"2.0.0\"\n[dependencies]\na = { path = \"../a\", version = \"?\" }\n";
     check_cause(
         &rt,
+        alloc,
         Version::new(1, 5, 0),
         ROOT,
         "[package",
         "input /w/b/Cargo.toml",
     );
-    check_cause(&rt, Version::new(1, 5, 0), ROOT, unversioned, "member b");
     check_cause(
         &rt,
+        alloc,
+        Version::new(1, 5, 0),
+        ROOT,
+        unversioned,
+        "member b",
+    );
+    check_cause(
+        &rt,
+        alloc,
         Version::new(1, 5, 0),
         shared,
         inherits,
@@ -98,6 +114,7 @@ fn causes_of_version_errors(rt: HostRuntime) {
     );
     check_cause(
         &rt,
+        alloc,
         Version::new(2, 5, 0),
         ROOT,
         unversioned,
@@ -105,6 +122,7 @@ fn causes_of_version_errors(rt: HostRuntime) {
     );
     check_cause(
         &rt,
+        alloc,
         Version::new(2, 5, 0),
         ROOT,
         bad,
