@@ -79,53 +79,37 @@ fn check_cause(
     check_result(rt, second, found.as_str(), expected);
 }
 
+/// The version that the second member's is greater than.
+fn low_version() -> Version {
+    Version::new(1, 5, 0)
+}
+
+/// The version that each member's is less than.
+fn high_version() -> Version {
+    Version::new(2, 5, 0)
+}
+
 #[test]
-fn causes_of_version_errors(rt: HostRuntime) {
+fn causes_of_rejected_versions(rt: HostRuntime) {
     let alloc = rt.alloc();
     let shared =
         "[workspace]\nmembers = [\"a\", \"b\"]\n[workspace.package]\nversion = \"3.0.0\"\n";
     let inherits = "[package]\nname = \"b\"\nversion.workspace = true\n";
+    let own = "[package]\nname = \"b\"\nversion = \"2.0.0\"\n";
+    let root = "root /w/Cargo.toml";
+    check_cause(&rt, alloc, low_version(), ROOT, own, "member b");
+    check_cause(&rt, alloc, low_version(), shared, inherits, root);
+}
+
+#[test]
+fn causes_in_manifests(rt: HostRuntime) {
+    let alloc = rt.alloc();
     let unversioned = "[package]\nname = \"b\"\n";
     let bad =
         "[package]\nname = \"b\"\nversion = \"2.0.0\"\n[dependencies]\na = { path = \"../a\", version = \"?\" }\n";
-    check_cause(
-        &rt,
-        alloc,
-        Version::new(1, 5, 0),
-        ROOT,
-        "[package",
-        "input /w/b/Cargo.toml",
-    );
-    check_cause(
-        &rt,
-        alloc,
-        Version::new(1, 5, 0),
-        ROOT,
-        unversioned,
-        "member b",
-    );
-    check_cause(
-        &rt,
-        alloc,
-        Version::new(1, 5, 0),
-        shared,
-        inherits,
-        "root /w/Cargo.toml",
-    );
-    check_cause(
-        &rt,
-        alloc,
-        Version::new(2, 5, 0),
-        ROOT,
-        unversioned,
-        "input /w/b/Cargo.toml",
-    );
-    check_cause(
-        &rt,
-        alloc,
-        Version::new(2, 5, 0),
-        ROOT,
-        bad,
-        "entry of 2 keys in /w/b/Cargo.toml",
-    );
+    let input = "input /w/b/Cargo.toml";
+    let entry = "entry of 2 keys in /w/b/Cargo.toml";
+    check_cause(&rt, alloc, high_version(), ROOT, "[package", input);
+    check_cause(&rt, alloc, high_version(), ROOT, unversioned, input);
+    check_cause(&rt, alloc, high_version(), ROOT, bad, entry);
 }
