@@ -9,8 +9,8 @@ use Rattle.edit_set_version.specs.declared.failure.VersionOrigin.{VersionOrigin}
 use Rattle.edit_set_version.specs.declared.failure.VersionOrigin.TheVariants as origin
 
 -- what caused an error: the manifest at a path, the version of the workspace in the root manifest at a path,
--- the version of the member with a name and the manifest at a path, or the entry at a place of the manifest at
--- a path
+-- the version of the member with a name and the manifest at a path, or the entry at a place of the manifest
+-- at a path
 pub data Cause : Type 0 where
   at_input : List ℕ → Cause
   at_root : List ℕ → Cause

@@ -67,11 +67,11 @@ currents a p =
 abbrev pub CanBump : Target → SelectionView → Current → Type 0
 CanBump t a c = IsBumpable (bump t a.metadata c.version)
 
--- the failure is that of a current version, which cannot be bumped
+-- a current version cannot be bumped, and the failure names it
 abbrev pub FailsAtVersion : Target → SelectionView → VersionFailure → Current → Type 0
 FailsAtVersion t a f c = IsUnbumped (bump t a.metadata c.version) c.version f.error × IsFrom f c.at
 
--- the failure is that of the first of these versions that cannot be bumped
+-- the failure names the first of these versions that cannot be bumped
 abbrev pub AreUnbumped : Target → SelectionView → List Current → VersionFailure → Type 0
 AreUnbumped t a cs f = HasFirstCause (CanBump t a) (FailsAtVersion t a f) cs
 
@@ -96,7 +96,7 @@ pub record LacksLiteral (bs : List Bump) (input : Input) : Type 0 where
   pub written : filter (writes_own (path_of input)) bs ≢ []
   pub no_value : is_value_at form package_version ≡ false
 
--- the failure is that of the first of these inputs that lacks a literal
+-- the failure names the first of these inputs that lacks a literal
 abbrev pub LackLiterals : List Bump → List Input → VersionFailure → Type 0
 LackLiterals bs inputs f =
     HasFirstCause (HasLiteral bs) (λ i. LacksLiteral bs i × IsFrom f (at_input (path_of i))) inputs
@@ -107,11 +107,12 @@ LackLiterals bs inputs f =
 abbrev pub CanFollow : Dependent → Type 0
 CanFollow d = CanRise (upgrade_of d.text d.next)
 
--- the failure is that of a requirement on a bumped crate in the manifest at a path, which cannot be raised
+-- a requirement on a bumped crate, in the manifest at a path, cannot be raised, and the failure names it
 abbrev pub FailsAtEntry : List ℕ → VersionFailure → Dependent → Type 0
-FailsAtEntry file f d = IsUpgradeError (upgrade_of d.text d.next) d.text f.error × IsFrom f (at_entry file d.place)
+FailsAtEntry file f d =
+    IsUpgradeError (upgrade_of d.text d.next) d.text f.error × IsFrom f (at_entry file d.place)
 
--- the failure is that of the first requirement of a manifest on a bumped crate that cannot be raised
+-- the failure names the first requirement of a manifest on a bumped crate that cannot be raised
 abbrev pub IsUnraised : List Bump → List ℕ → Tree → VersionFailure → Type 0
 IsUnraised bs file t f = HasFirstCause CanFollow (FailsAtEntry file f) (dependents bs file t)
 
@@ -119,15 +120,16 @@ IsUnraised bs file t f = HasFirstCause CanFollow (FailsAtEntry file f) (dependen
 abbrev pub AllRiseIn : List Bump → Named → Type 0
 AllRiseIn bs m = AllRise bs m.path m.tree
 
--- the failure is that of the first of these manifests with a requirement on a bumped crate that cannot be
--- raised
+-- the failure names a requirement in the first of these manifests that has one on a bumped crate that cannot
+-- be raised
 abbrev pub AreUnraised : List Bump → List Named → VersionFailure → Type 0
 AreUnraised bs ms f = HasFirstCause (AllRiseIn bs) (λ m. IsUnraised bs m.path m.tree f) ms
 
 -- ---- manifests
 
--- the failure in the manifests of a project: that of a literal; where none is missing, that of a requirement,
--- the root's before those of the other members
-pub data IsManifestError (bs : List Bump) (inputs : List Input) (p : Project) (f : VersionFailure) : Type 0 where
+-- the failure in the manifests of a project: a missing literal, else a requirement that cannot be raised, in
+-- the root before the other members
+pub data IsManifestError (bs : List Bump) (inputs : List Input) (p : Project) (f : VersionFailure)
+    : Type 0 where
   literal : f.error ≡ error.NoVersionPlace → LackLiterals bs inputs f → IsManifestError bs inputs p f
   requirement : All (HasLiteral bs) inputs → AreUnraised bs (manifests p) f → IsManifestError bs inputs p f

@@ -36,7 +36,7 @@ pub record HasVersions (t : Target) (a : SelectionView) (p : Project) : Type 0 w
 abbrev pub IsManifest : Input → Type 0
 IsManifest input = (form : Text) × IsDocument input.bytes.items form
 
--- the failure is that of an input, whose bytes are no manifest
+-- the bytes of an input are no manifest, and the failure names it
 abbrev pub FailsAtInput : VersionFailure → Input → Type 0
 FailsAtInput f input = IsBadManifest input.bytes.items f.error × IsFrom f (at_input (path_of input))
 
@@ -56,7 +56,7 @@ pub data IsFailureOf
   manifest : unknown a w ≡ [] → (p : Project) → IsProject w inputs p → HasVersions t a p
       → IsManifestError (bumps t a p) inputs p f → IsFailureOf t a w inputs f
 
--- the error is that of a failure of the plan
+-- the plan fails with this error, for a cause that a failure names
 abbrev pub IsCauseOf : Target → SelectionView → WorkspaceModel → List Input → Error → Type 0
 IsCauseOf t a w inputs e = (f : VersionFailure) × (f.error ≡ e) × IsFailureOf t a w inputs f
 

@@ -21,6 +21,11 @@ const ROOT: &str = "[workspace]\nmembers = [\"a\", \"b\"]\n";
 /// The manifest of the first member.
 const FIRST: &str = "[package]\nname = \"a\"\nversion = \"1.0.0\"\n";
 
+/// A manifest of the second member, whose requirement on the first cannot be raised.
+const UNRAISABLE: &str = "\
+[package]\nname = \"b\"\nversion = \"2.0.0\"\n\
+[dependencies]\na = { path = \"../a\", version = \"?\" }\n";
+
 /// What caused the error of a plan of new versions, as a text.
 fn origin_text(alloc: Global, failure: &VersionFailure<'_>) -> Result<String, AllocError> {
     match &failure.origin {
@@ -105,11 +110,9 @@ fn causes_of_rejected_versions(rt: HostRuntime) {
 fn causes_in_manifests(rt: HostRuntime) {
     let alloc = rt.alloc();
     let unversioned = "[package]\nname = \"b\"\n";
-    let bad =
-        "[package]\nname = \"b\"\nversion = \"2.0.0\"\n[dependencies]\na = { path = \"../a\", version = \"?\" }\n";
     let input = "input /w/b/Cargo.toml";
     let entry = "entry of 2 keys in /w/b/Cargo.toml";
     check_cause(&rt, alloc, high_version(), ROOT, "[package", input);
     check_cause(&rt, alloc, high_version(), ROOT, unversioned, input);
-    check_cause(&rt, alloc, high_version(), ROOT, bad, entry);
+    check_cause(&rt, alloc, high_version(), ROOT, UNRAISABLE, entry);
 }
