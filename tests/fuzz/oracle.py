@@ -1,5 +1,5 @@
-"""What an upgrade should leave of a manifest, worked out from the documents (docs/UPGRADE.md) apart from the
-program.
+"""What an upgrade should leave of a manifest, worked out from the documents (docs/UPGRADE.md, docs/SELECTION.md) apart
+from the program.
 It works on the tree that `tomllib` reads, and not of bytes. `Unknown` where it has no opinion."""
 
 import json
