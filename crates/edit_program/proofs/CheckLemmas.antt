@@ -1,5 +1,5 @@
 -- With `--check` no file changes.
-use Rattle.std.proofs.Common.{◌≡◌, ◌∙◌, ◌≤◌, ◌&&◌, ◌||◌, ℕ, Bool, List, [], ◌∷◌, true, false, ap, arith, codes, refl, sym}
+use Rattle.std.proofs.Common.{◌≡◌, ◌∙◌, ◌&&◌, ◌||◌, ℕ, Bool, List, [], ◌∷◌, true, false, ap, arith, codes, refl, sym}
 use Rattle.std.specs.Prelude.{if◌then◌else◌}
 use Rattle.std.proofs.lemmas.List.Elements.{All-nil}
 use Rattle.clap.specs.Words.{Row}
@@ -14,15 +14,6 @@ use Rattle.edit_program.proofs.DryRuns.{dry_keeps}
 use Rattle.edit_program.specs.ParsedOptions.{is_dry, is_given, lists_rows}
 use Rattle.edit_program.specs.Presented.{status_after}
 use Rattle.edit_program.specs.Run.{Run}
-
--- a status behind a plan is 0 or 1
-small_by : (input_report due : Bool) (s : ℕ) → s ≡ (if input_report && due then 1 else 0) → s ≤ 1
-small_by true true s is = omega (arith, is)
-small_by true false s is = omega (arith, is)
-small_by false due s is = omega (arith, is)
-
-pub small_after : (rows : List Row) (due : Bool) (s : ℕ) → s ≡ status_after rows due → s ≤ 1
-small_after rows due s is = small_by (is_given (codes "check") rows) due s is
 
 -- at status 1 nothing was to be written
 dry_by : (dry input_report lists due : Bool) (s : ℕ) → s ≡ (if input_report && due then 1 else 0) → s ≡ 1

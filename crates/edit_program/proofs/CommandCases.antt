@@ -1,34 +1,29 @@
--- The result of a command, from its parsed arguments and the subcommand's name.
-use Rattle.std.proofs.Common.{ℕ, List, inl, inr}
+-- The answer of a subcommand, from that to its parsed arguments and its name.
+use Rattle.std.proofs.Common.{◌≡◌, List, codes, inl, inr}
 use Rattle.std.specs.Prelude.{◌⊎◌}
-use Rattle.clap.specs.Words.{Row}
-use Rattle.edit_program.specs.SetVersions.{IsSettingInterrupted}
-use Rattle.edit_program.specs.declared.set_version_run.set_version_args.SetVersionArgs.{SetVersionArgs}
-use Rattle.edit_store.specs.Store.{SameFiles, StoreView}
-use Rattle.edit_program.specs.Upgrading.{IsBroken}
-use Rattle.edit_program.specs.declared.upgrade_run.upgrade_args.UpgradeArgs.{UpgradeArgs}
-use Rattle.edit_program.specs.Commands.{HasBroken, HasStoppedSetting}
+use Rattle.clap.specs.Words.{Row, Text}
+use Rattle.edit_program.specs.Replies.{IsLookupsReply, IsReplyBy, IsUpgradeReply, IsVersionReply}
 use Rattle.edit_program.specs.Run.{Run}
-use Rattle.edit_program.specs.ParsedUpgrade.{HasUpgradeArgs}
-use Rattle.edit_program.specs.ParsedSetVersion.{HasSetVersionArgs}
+use Rattle.edit_program.specs.declared.effects.Reply.{Reply}
+use Rattle.edit_program.specs.declared.effects.Reply.TheVariants as reply
 
--- an upgrade that broke off is one for what the matches ask
-pub broken_for : (rows : List Row) (HasFields : List ℕ → Type 0) (run : Run) (args : UpgradeArgs)
-    → HasUpgradeArgs rows args
-    → SameFiles run.old.file_at run.new.file_at ⊎ IsBroken HasFields args run
-    → SameFiles run.old.file_at run.new.file_at ⊎ HasBroken rows HasFields run
-broken_for rows HasFields run args asks (inl same) = inl same
-broken_for rows HasFields run args asks (inr broken) =
-    inr (record { args = args; asks = asks; broken = broken })
+pub upgrade_reply_by : (name : Text) (rows : List Row) (run : Run) (r : Reply) → name ≡ codes "upgrade"
+    → IsUpgradeReply rows run r → IsReplyBy name rows run r
+upgrade_reply_by name rows run (reply.Usage text) is h = inr (inl (is, h))
+upgrade_reply_by name rows run (reply.Text text) is h = absurd h
+upgrade_reply_by name rows run (reply.Effects e) is h = inl (is, h)
 
--- and so is a setting of versions
-pub stopped_for : (rows : List Row) (HasFields IsErrorOf : List ℕ → Type 0) (current : List ℕ) (old new : StoreView)
-    (args : SetVersionArgs) → HasSetVersionArgs rows args
-    → SameFiles old.file_at new.file_at ⊎ IsSettingInterrupted HasFields IsErrorOf args current old new
-    → SameFiles old.file_at new.file_at ⊎ HasStoppedSetting rows HasFields IsErrorOf current old new
-stopped_for rows HasFields IsErrorOf current old new args asks (inl same) = inl same
-stopped_for rows HasFields IsErrorOf current old new args asks (inr stopped) =
-    inr (record { args = args; asks = asks; stopped = stopped })
+pub lookups_reply_by : (name : Text) (rows : List Row) (run : Run) (r : Reply) → name ≡ codes "looks"
+    → IsLookupsReply rows run.current run.home run.old r → IsReplyBy name rows run r
+lookups_reply_by name rows run (reply.Usage text) is h = inr (inr (inl (is, h)))
+lookups_reply_by name rows run (reply.Text text) is h = (is, h)
+lookups_reply_by name rows run (reply.Effects e) is h = absurd h
+
+pub version_reply_by : (name : Text) (rows : List Row) (run : Run) (r : Reply) → name ≡ codes "set-version"
+    → IsVersionReply rows run.current run.old r → IsReplyBy name rows run r
+version_reply_by name rows run (reply.Usage text) is h = inr (inr (inr (is, h)))
+version_reply_by name rows run (reply.Text text) is h = absurd h
+version_reply_by name rows run (reply.Effects e) is h = inr (is, h)
 
 -- what holds in the second case
 pub in_right : {A B C : Type 0} → (B → C) → A ⊎ B → A ⊎ C

@@ -42,9 +42,7 @@ use Rattle.edit_upgrade.specs.OptionCauses.{IsOptionCause, IsPlanError}
 use Rattle.edit_upgrade.specs.declared.decision.options.Options.{Options}
 use Rattle.edit_upgrade.specs.declared.failure.PlanFailure.{PlanFailure}
 use Rattle.edit_upgrade.proofs.CauseLemmas.{documents-error, inputs-error}
-use Rattle.edit_version.specs.Changed as changed
 use Rattle.edit_version.specs.CrateSpecs.{IsInvalidSpec}
-use Rattle.edit_version.specs.Increments.{Change}
 use Rattle.edit_version.specs.RequirementErrors.{IsUpgradeError}
 use Rattle.edit_version.specs.Requirement.{UpgradeResult}
 use Rattle.semver.specs.Parse.{Parts}
@@ -63,11 +61,6 @@ memory_counts e memory = other_counts e 46 memory (λ same. omega (arith, same))
 
 pub error_counts : {P : Type 0} (e is : Error) → e ≡ is → (number_of is ≡ 3 → ⊥) → number_of e ≡ 3 → P
 error_counts e is same differs = other_counts e (number_of is) (ap number_of same) differs
-
--- what is shown in place of matches is not printed for want of memory, or since a stream does not take it
-pub shown_counts : {P Q : Type 0} (e : Error) → IsMemory e ⊎ ((e ≡ error.Output) × Q) → number_of e ≡ 3 → P
-shown_counts e (inl memory) = memory_counts e memory
-shown_counts e (inr output) = error_counts e error.Output output.0 (λ h. cc h)
 
 arg_counts : {P : Type 0} (arg : List ℕ) (e : Error) → IsInvalidSpec arg e → number_of e ≡ 3 → P
 arg_counts arg (error.Device _) h device = absurd h
@@ -166,11 +159,6 @@ shared_count view index o inputs configs documents old new f is (inr same) given
     ∙ length-map inputs (λ (input : Input). input.bytes.items))))
 
 -- ---- a plan of versions
-
-change_counts : {P : Type 0} (c : Change) (old : Parts) (e : Error) → changed.IsCause c old e
-    → number_of e ≡ 3 → P
-change_counts c old (error.Device _) h device = absurd h
-change_counts c old other h device = cc device
 
 unbumped_counts : {P : Type 0} (b : Bumped) (current : Parts) (e : Error) → IsUnbumped b current e
     → number_of e ≡ 3 → P

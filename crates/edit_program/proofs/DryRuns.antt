@@ -18,12 +18,12 @@ none_written o outputs dry = ap (λ b. if b || o.locked then [] else outputs) dr
 none_due : (o : Options) (path : Option (List ℕ)) → o.dry_run ≡ true → due_path o path ≡ None
 none_due o path dry = ap (λ b. if b || o.locked then None else path) dry
 
-no_files : (outputs : List Output) → map file_of outputs ≡ [] → outputs ≡ []
+pub no_files : (outputs : List Output) → map file_of outputs ≡ [] → outputs ≡ []
 no_files [] is = refl
 no_files (o ∷ os) is = cc
 
 -- nothing is written to no files
-unchanged : (outputs : List Output) (old new : StoreView) → outputs ≡ [] → AreWritten outputs old new
+pub unchanged : (outputs : List Output) (old new : StoreView) → outputs ≡ [] → AreWritten outputs old new
     → SameFiles old.file_at new.file_at
 unchanged [] old new is written path = written.others path (λ k d within. absurd (omega (arith, within)))
 unchanged (o ∷ os) old new is written path = cc

@@ -21,12 +21,18 @@ mod UpgradeErrorLemmas
 mod RevisionLemmas
 mod PlannedRowLemmas
 mod RevisedOrderLemmas
-pub mod PrintedLemmas
 pub mod SetVersionLemmas
 pub mod CopyLemmas
 mod DeliveryLemmas
+mod EffectLemmas
 pub mod DryRuns
 mod NameLemmas
 mod NoteLemmas
 mod PartLemmas
 mod PolicyLemmas
+pub mod ReplyCounts
+pub mod ReplyLemmas
+pub mod ReplyResults
+pub mod UpgradeEffectLemmas
+pub mod VersionEffectLemmas
+pub mod SubcommandLemmas

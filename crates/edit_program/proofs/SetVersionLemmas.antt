@@ -1,58 +1,21 @@
 -- A run of `set-version`, from its steps.
-use Rattle.std.proofs.Common.{◌≡◌, ◌≢◌, ℕ, List, [], Bool, true, false, length, inl, inr}
-use Rattle.std.specs.Prelude.{◌==◌, ◌⊎◌, not, if◌then◌else◌}
+use Rattle.std.proofs.Common.{◌≡◌, ℕ, List, true, inl, inr}
+use Rattle.std.specs.Prelude.{◌⊎◌}
 use Rattle.edit_base.specs.Errors.{IsMemory}
 use Rattle.edit_base.specs.declared.errors.DeviceCall.TheVariants as call
 use Rattle.edit_base.specs.declared.errors.Error.{Error}
 use Rattle.edit_base.specs.declared.errors.Error.TheVariants.{Output as Unwritten}
 use Rattle.edit_metadata.specs.Metadata.{WorkspaceModel}
 use Rattle.edit_metadata.specs.declared.input.Input.{Input}
-use Rattle.edit_report.specs.Applied.{HaveDistinctPaths, path_of}
-use Rattle.edit_report.specs.declared.output.Output.{Output}
 use Rattle.edit_set_version.specs.Bumps.{target_of}
 use Rattle.edit_set_version.specs.PlanRefused.{IsCauseOf}
-use Rattle.edit_set_version.specs.Planned.{OutputsInOrder, outputs_at, plan_lines_view}
 use Rattle.edit_set_version.specs.Selections.{selection_view}
-use Rattle.edit_set_version.specs.declared.plan.SetVersionPlan.{SetVersionPlan}
-use Rattle.edit_metadata.specs.Inputs.{HaveOwnPaths}
-use Rattle.edit_steps.proofs.DistinctPaths.{none_differ, outputs_differ}
 use Rattle.edit_steps.specs.Errors.{IsWorkspaceError}
 use Rattle.edit_steps.specs.Workspaces.{HasNoWorkspace}
 use Rattle.edit_store.specs.Store.{IsCallError, SameFiles, StoreView}
 use Rattle.edit_program.specs.SetVersionCauses.{IsSetVersionCause}
-use Rattle.edit_program.specs.Plans.{IsVersionPlan}
-use Rattle.edit_program.specs.Printed.{set_version_stderr_text, set_version_stdout_text}
-use Rattle.edit_program.specs.SetVersions.{IsPlannedTo, IsRead, outputs_to_write}
+use Rattle.edit_program.specs.SetVersions.{IsRead}
 use Rattle.edit_program.specs.declared.set_version_run.set_version_args.SetVersionArgs.{SetVersionArgs}
-
--- what is to be written goes to paths of its own
-pub written_differ : (args : SetVersionArgs) (is : List Input) (outputs : List Output) → HaveOwnPaths is
-    → OutputsInOrder is outputs → HaveDistinctPaths (outputs_to_write args outputs)
-written_differ args is outputs own in_order = go args.dry_run
-  where
-    go : (dry : Bool) → HaveDistinctPaths (if dry then [] else outputs)
-    go true = none_differ (λ a b. path_of a ≢ path_of b)
-    go false = outputs_differ (λ path. not (length (outputs_at path outputs) == 0)) is outputs own in_order
-
--- what was read, planned and printed, and what is left of the files
-pub planned_to : (Leaves : List Output → StoreView → StoreView → Type 0) (HasFields IsErrorOf : List ℕ → Type 0)
-    (args : SetVersionArgs) (current : List ℕ) (old new : StoreView) (w : WorkspaceModel) (is : List Input)
-    (plan : SetVersionPlan) → (old.tells ≡ true → IsRead args current old.file_at w is)
-    → IsVersionPlan (target_of args.target) (selection_view args.selection) w is plan
-    → HasFields (set_version_stdout_text args w.root is plan)
-    → IsErrorOf (set_version_stderr_text args (plan_lines_view plan))
-    → Leaves plan.outputs.items old new → old.tells ≡ true
-    → IsPlannedTo Leaves HasFields IsErrorOf args current old new
-planned_to Leaves HasFields IsErrorOf args current old new w is plan read planned shows tells leaves t = record {
-  workspace = w;
-  inputs = is;
-  plan = plan;
-  read = read t;
-  planned = planned;
-  shows = shows;
-  tells = tells;
-  leaves = leaves;
-}
 
 -- what is printed was not taken, or memory ran out for it, before a file was written
 pub stream_cause : (args : SetVersionArgs) (current : List ℕ) (old new : StoreView) (e : Error)

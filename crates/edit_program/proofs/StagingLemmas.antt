@@ -1,8 +1,8 @@
 -- Outputs that are written after steps that only read.
-use Rattle.std.proofs.Common.{◌≡◌, ◌∙◌, List, [], ◌∷◌, append-nil, arith, inl, inr, sym}
+use Rattle.std.proofs.Common.{◌≡◌, ◌∙◌, List, inl, inr}
 use Rattle.edit_report.specs.Applied.{AreWritten, HasStopped}
 use Rattle.edit_report.specs.declared.output.Output.{Output}
-use Rattle.edit_steps.proofs.Written.{nothing_written, stopped_after, written_after}
+use Rattle.edit_steps.proofs.Written.{stopped_after, written_after}
 use Rattle.edit_store.specs.Store.{OnlyReads, SameFiles, StoreView}
 use Rattle.edit_program.specs.Delivered.{HaveStopped, IsBehind}
 
@@ -35,19 +35,3 @@ all_stopped_after first last old mid new reads (inr (inl whole)) =
     inr (inl (written_after first old mid new reads whole))
 all_stopped_after first last old mid new reads (inr (inr left)) =
     inr (inr (behind_after HasStopped first last old mid new reads left))
-
--- the writing of two lists stopped before the first write
-pub stopped_before : (first last : List Output) (old new : StoreView) → OnlyReads old new
-    → HaveStopped first last old new
-stopped_before [] last old new reads = inr (inl (nothing_written old new reads))
-stopped_before (o ∷ rest) last old new reads = inl record {
-  at = 0;
-  within = omega arith;
-  begun = 0;
-  begun_before = omega arith;
-  begun_last = omega arith;
-  once = reads.writes ∙ sym (append-nil old.writes);
-  whole = λ _ k d within. absurd (omega (arith, within));
-  untouched = λ k d within. reads.files _;
-  others = λ path none. reads.files path;
-}

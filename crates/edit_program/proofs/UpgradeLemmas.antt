@@ -9,9 +9,7 @@ use Rattle.edit_lock.specs.declared.lock.Lock.{Lock}
 use Rattle.edit_policy.specs.declared.policy.CratePolicy.{CratePolicy}
 use Rattle.edit_restricted_index.specs.RestrictedIndex.{restricted_view}
 use Rattle.edit_restricted_index.specs.Restrictions.{VersionTest, restriction_test}
-use Rattle.edit_metadata.specs.Metadata.{WorkspaceModel}
 use Rattle.edit_metadata.specs.Workspaces.{workspace_view}
-use Rattle.edit_metadata.specs.declared.input.Input.{Input}
 use Rattle.edit_metadata.specs.declared.workspace.Workspace.{Workspace}
 use Rattle.edit_report.specs.Applied.{AreWritten}
 use Rattle.edit_report.specs.declared.output.Output.{Output}
@@ -19,15 +17,14 @@ use Rattle.edit_sources.specs.Configured.{given}
 use Rattle.edit_store.specs.Store.{OnlyReads, SameFiles, StoreView}
 use Rattle.edit_upgrade.specs.declared.upgrade.UpgradePlan.{UpgradePlan}
 use Rattle.edit_steps.specs.Shared.{lists_for}
-use Rattle.edit_steps.specs.declared.upgrade_read.target.Target.{Target}
 use Rattle.edit_program.proofs.StagingLemmas.{all_stopped_after, behind_after}
 use Rattle.edit_program.specs.Delivered.{AreBothWritten, HaveStopped, IsDeliveryInterrupted, IsDelivered, IsWrittenAfterPrint, upgrade_outputs_to_write}
-use Rattle.edit_program.specs.Delivery.{Delivery, calls_against, calls_of}
+use Rattle.edit_program.specs.Delivery.{Delivery}
 use Rattle.edit_program.specs.Followed.{IsReady}
 use Rattle.edit_program.specs.Planned.{IsPlanCause, IsPlanned, index_view, restriction, upgrade_index, upgrade_test}
 use Rattle.edit_program.specs.Run.{run_at}
 use Rattle.edit_program.specs.StderrText.{upgrade_stderr_text}
-use Rattle.edit_program.specs.Upgrading.{IsUpgradeResult, IsBroken, IsPathOf, IsPlannedFor, IsRevisedFor, IsUpgraded, called_workspace, delivery_by, delivery_for, diff_root, has_outputs, keeps_lock}
+use Rattle.edit_program.specs.Upgrading.{IsUpgradeResult, IsBroken, IsPathOf, IsPlannedFor, IsRevisedFor, IsUpgraded, delivery_for, has_outputs}
 use Rattle.edit_program.specs.declared.upgrade_run.following.Readings.{Readings}
 use Rattle.edit_program.specs.declared.upgrade_run.upgrade_args.UpgradeArgs.{UpgradeArgs}
 
@@ -77,61 +74,6 @@ upgrade_test_is r lent crates test lock same is =
     (same_lock lent r.lock lock)
     ∙ ap (λ (cs : List CratePolicy).
     restriction_test (restriction r.args.to_lockfile (option_map lock_view r.lock)) cs) same
-
--- a plan for these manifests as the arguments ask for it, where diffs name files from this folder and calls
--- follow for this workspace
-abbrev delivery_at : UpgradeArgs → UpgradePlan → List (List ℕ) → List Input → Option WorkspaceModel → List ℕ
-    → List CratePolicy → Option (List ℕ) → Option (List Package) → Delivery
-delivery_at args plan apart inputs called root crates path lock = record {
-  plan = plan;
-  apart = apart;
-  inputs = inputs;
-  options = args.options;
-  current = root;
-  presentation = args.presentation;
-  calls = calls_against lock args.offline (calls_of plan args.options called);
-  calls_path = path;
-  offline = args.offline;
-  crates = crates;
-}
-
--- what is delivered is what the arguments ask for
-pub same_delivery : (args : UpgradeArgs) (current root : List ℕ) (plan : UpgradePlan)
-    (names apart : List (List ℕ)) (target : Target) (crates : List CratePolicy) (path : Option (List ℕ))
-    (lock : Option (List Package)) (inputs : List Input) (r : Option (Bor Workspace))
-    (called : Option WorkspaceModel)
-    → root ≡ diff_root current (option_map (λ x. workspace_view x.now) r)
-    → names ≡ apart → inputs ≡ target.inputs.items → option_copied r ≡ target.workspace
-    → called ≡ called_workspace (keeps_lock args plan) (option_map (λ x. workspace_view x.now) r)
-    → delivery_at args plan names inputs called root crates path lock
-    ≡ delivery_by args current plan apart target crates path lock
-same_delivery args current root plan names apart target crates path lock inputs r called from listed same is
-    calls =
-    let workspace = option_map (λ (x : Bor Workspace). workspace_view x.now) r in
-    let of = called_workspace (keeps_lock args plan) in
-    ap (λ (w : Option WorkspaceModel). delivery_at args plan names inputs w root crates path lock) calls
-    ∙ ap (λ (folder : List ℕ). delivery_at args plan names inputs (of workspace) folder crates path lock) from
-    ∙ ap (λ (ns : List (List ℕ)). delivery_at args plan ns inputs (of workspace) (diff_root current workspace)
-    crates path lock) listed
-    ∙ ap (λ (xs : List Input). delivery_at args plan apart xs (of workspace) (diff_root current workspace)
-    crates path lock) same
-    ∙ ap (λ (w : Option WorkspaceModel). delivery_at args plan apart target.inputs.items (of w)
-    (diff_root current w) crates path lock) (same_workspace r target.workspace is)
-
--- what is delivered, where the lock file and what the policy says of crates are borrowed
-pub delivery_is : (r : Readings) (current : List ℕ) (plan : UpgradePlan) (apart : List (List ℕ))
-    (path : Option (List ℕ)) (lent : Option (Bor Lock)) (crates : List CratePolicy) (task : Delivery)
-    → option_copied lent ≡ r.lock → crates ≡ r.policy.crates.items
-    → task ≡ delivery_by r.args current plan apart r.sources.target crates path
-    (option_map (λ l. lock_view l.now) lent)
-    → task ≡ delivery_for r current plan apart path
-delivery_is r current plan apart path lent crates task lock same is =
-    is
-    ∙ ap (λ (ps : Option (List Package)).
-    delivery_by r.args current plan apart r.sources.target crates path ps)
-    (same_lock lent r.lock lock)
-    ∙ ap (λ (cs : List CratePolicy).
-    delivery_by r.args current plan apart r.sources.target cs path (option_map lock_view r.lock)) same
 
 -- a plan was delivered, and the answer is whether it changes a manifest
 pub answered : (due : Bool) (HasFields HasDecodedValue : List ℕ → Type 0) (old new : StoreView)

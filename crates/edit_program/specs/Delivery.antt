@@ -13,7 +13,7 @@ use Rattle.edit_upgrade.specs.ParsedOptions.{call_options}
 use Rattle.edit_upgrade.specs.UpdateCalls.{Call, update_calls}
 use Rattle.edit_upgrade.specs.declared.upgrade.UpgradePlan.{UpgradePlan}
 use Rattle.edit_metadata.specs.Workspaces.{workspace_view}
-use Rattle.edit_program.specs.declared.upgrade_output.task.DeliveryTask.{DeliveryTask}
+use Rattle.edit_program.specs.declared.upgrade_output.delivery.DeliveryTask.{DeliveryTask}
 
 -- the calls of `cargo update`, where there is a workspace
 abbrev pub calls_of : UpgradePlan → Options → Option WorkspaceModel → List Call

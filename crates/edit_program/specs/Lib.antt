@@ -37,8 +37,12 @@ pub mod Choosing
 pub mod Revising
 pub mod StderrText
 pub mod Delivered
+pub mod Effects
 pub mod DeliveryCauses
 pub mod Counted
 pub mod ChosenVersions
 pub mod PlannedUpgrades
 pub mod LockPlans
+pub mod Replies
+pub mod UpgradeEffects
+pub mod VersionEffects

@@ -1,195 +1,137 @@
-//! Runs each subcommand with its parsed arguments.
-ghost use Rattle.std.specs.Prelude.{◌≡◌, ◌≢◌, ◌⊎◌, ◌≤◌, IfErr, IfOk, OnErr, codes, true};
-ghost use Rattle.std.specs.Io.KnownBytes.{Appends};
+//! What each subcommand answers to its parsed arguments.
+ghost use Rattle.std.specs.Prelude.{◌≡◌, ◌⊎◌, IfErr, IfOk};
 ghost use Rattle.clap.specs.Words.{found_of, rows_of};
 ghost use Rattle.edit_base.specs.Errors.{IsMemory};
 ghost use Rattle.edit_sources.specs.Configured.{given};
 ghost use Rattle.edit_steps.specs.Faults.{CountsFault};
-ghost use Rattle.edit_store.specs.Store.{SameFiles};
-ghost use Rattle.edit_program.specs.ParsedOptions.{is_given};
-ghost use Rattle.edit_program.specs.Commands.{HasBroken, HasPrintedLookups, HasLookupsCause, HasSetVersionCause, HasSetVersions, HasStoppedSetting, HasUpgradeCause, HasUpgraded, HasSubcommandUsageError, IsBrokenBy, IsCauseBy, IsDoneBy};
+ghost use Rattle.edit_store.specs.Store.{OnlyReads};
+ghost use Rattle.edit_program.specs.Commands.{HasLookupsCause, HasSetVersionCause, HasUpgradeCause, IsCauseBy};
 ghost use Rattle.edit_program.specs.Counted.{CountsEitherFault};
-ghost use Rattle.edit_program.specs.Run.{run_at};
-ghost use Rattle.edit_program.specs.ParsedUpgrade.{HaveUpgradeFault};
-ghost use Rattle.edit_program.specs.ParsedSetVersion.{HaveVersionFault};
+ghost use Rattle.edit_program.specs.Effects.{HaveOwnFiles, status_of_reply};
+ghost use Rattle.edit_program.specs.PlannedUpgrades.{prints_nothing};
+ghost use Rattle.edit_program.specs.Replies.{IsLookupsReply, IsReplyBy, IsUpgradeReply, IsVersionReply};
+ghost use Rattle.edit_program.specs.Run.{run_in};
 
 use crate::args_error::ArgsError;
-use crate::faults::print_args_error;
-use crate::output_format::status_after;
+use crate::effects::Reply;
+use crate::faults::usage_message;
+use crate::lookups::is_given;
 use crate::run_folders::RunFolders;
 use crate::set_version_parser::parse_set_version_args;
 use crate::set_version_run::set_version;
 use crate::upgrade_parser::parse_upgrade_args;
-use crate::upgrade_run::{print_lookups, upgrade};
+use crate::upgrade_run::{lookups, upgrade};
 use clap::ArgMatches;
 use edit_base::Error;
 use edit_steps::{RunError, RunResult};
 use edit_store::Store;
 use std::alloc::Global;
-use std::io;
 
-/// Runs `upgrade`, and returns its exit status.
-fn run_upgrade<S: Store, T: Store + Drop, O: io::Write, E: io::Write>(
+/// What `upgrade` answers.
+fn upgrade_reply<S: Store, T: Store + Drop>(
     alloc: Global,
     matches: &ArgMatches<'_>,
     place: &RunFolders<'_>,
     files: &mut S,
     index_files: T,
-    out: &mut O,
-    err: &mut E,
-) -> RunResult<u8>
-    ensures status { IfOk result (λ s. s ≤ 2) }
-    ensures answered { IfOk result (λ s. s ≡ 2 → files.new ≡ files.old) }
-    ensures checked { IfOk result (λ s. s ≡ 1 → (S.view files.old).tells ≡ true
-        → SameFiles (S.view files.old).file_at (S.view files.new).file_at) }
-    ensures fault { IfOk result (λ s. s ≡ 2 → HaveUpgradeFault (rows_of (found_of matches.now))) }
-    ensures done { IfOk result (λ s. s ≢ 2 → (S.view files.old).tells ≡ true
-        → HasUpgraded (rows_of (found_of matches.now)) s (Appends (O.contents out.old) (O.contents out.new))
-        (Appends (E.contents err.old) (E.contents err.new))
-        (run_at place.now.current.now (given place.now.cargo_home)
-        (T.view index_files) (S.view files.old) (S.view files.new))) }
-    ensures error { OnErr result ((S.view files.old).tells ≡ true
-        → SameFiles (S.view files.old).file_at (S.view files.new).file_at
-        ⊎ HasBroken (rows_of (found_of matches.now)) (Appends (O.contents out.old) (O.contents out.new))
-        (run_at place.now.current.now (given place.now.cargo_home)
-        (T.view index_files) (S.view files.old) (S.view files.new))) }
-    ensures why { IfErr result (λ r. IsMemory r.error ⊎ HasUpgradeCause (rows_of (found_of matches.now))
-        (Appends (O.contents out.old) (O.contents out.new))
-        (run_at place.now.current.now (given place.now.cargo_home)
-        (T.view index_files) (S.view files.old) (S.view files.new)) r.error) }
+) -> RunResult<Reply>
+    ensures reads { OnlyReads (S.view files.old) (S.view files.new) }
+    ensures answered { IfOk result (λ r. status_of_reply r ≡ 2 → files.new ≡ files.old) }
+    ensures reply { IfOk result (IsUpgradeReply (rows_of (found_of matches.now))
+        (run_in place.now (T.view index_files) (S.view files.old) (S.view files.new))) }
+    ensures own { IfOk result HaveOwnFiles }
+    ensures why { IfErr result (λ r. IsMemory r.error
+        ⊎ HasUpgradeCause (rows_of (found_of matches.now)) prints_nothing
+        (run_in place.now (T.view index_files) (S.view files.old) (S.view files.new)) r.error) }
     ensures counted { IfErr result (λ r. CountsEitherFault T.view index_files
         (S.view files.old) (S.view files.new) r.error) }
-    ensures requested { IfOk result (λ s. s ≡ 1
-        → is_given (codes "check") (rows_of (found_of matches.now)) ≡ true) }
 {
     let args = match parse_upgrade_args(alloc, matches) {
         Ok(args) => args,
         Err(ArgsError::Memory) => return Err(RunError::from(Error::Memory)),
-        Err(ArgsError::Fault(fault)) => return Ok(print_args_error(&fault, err)),
+        Err(ArgsError::Fault(fault)) => return Ok(Reply::Usage(usage_message(alloc, &fault)?)),
     };
-    let due = upgrade(alloc, &args, place, files, index_files, out, err)?;
-    Ok(status_after(matches, due))
+    let check = is_given(matches, "check");
+    let effects = upgrade(alloc, &args, place, files, index_files, check)?;
+    Ok(Reply::Effects(effects))
 }
 
-/// Runs `looks`, which prints the lookups that an upgrade needs, and returns its exit status.
-fn run_lookups<S: Store, O: io::Write, E: io::Write>(
+/// What `looks` answers: the lookups that an upgrade needs.
+fn lookups_reply<S: Store>(
     alloc: Global,
     matches: &ArgMatches<'_>,
-    current: &str,
-    cargo_home: Option<&str>,
+    place: &RunFolders<'_>,
     files: &mut S,
-    out: &mut O,
-    err: &mut E,
-) -> RunResult<u8>
-    ensures status { IfOk result (λ s. s ≤ 2) }
-    ensures answered { IfOk result (λ s. s ≡ 2 → files.new ≡ files.old) }
-    ensures preserved { SameFiles (S.view files.old).file_at (S.view files.new).file_at }
-    ensures fault { IfOk result (λ s. s ≡ 2 → HaveUpgradeFault (rows_of (found_of matches.now))) }
-    ensures done { IfOk result (λ s. s ≢ 2 → (S.view files.old).tells ≡ true
-        → (s ≡ 0) × HasPrintedLookups (rows_of (found_of matches.now))
-        (Appends (O.contents out.old) (O.contents out.new)) current.now (given cargo_home.entry)
-        (S.view files.old) (S.view files.new)) }
+) -> RunResult<Reply>
+    ensures reads { OnlyReads (S.view files.old) (S.view files.new) }
+    ensures answered { IfOk result (λ r. status_of_reply r ≡ 2 → files.new ≡ files.old) }
+    ensures reply { IfOk result (IsLookupsReply (rows_of (found_of matches.now)) place.now.current.now
+        (given place.now.cargo_home) (S.view files.old)) }
+    ensures own { IfOk result HaveOwnFiles }
     ensures why { IfErr result (λ r. IsMemory r.error ⊎ HasLookupsCause (rows_of (found_of matches.now))
-        current.now (given cargo_home.entry) (S.view files.old) (S.view files.new) r.error) }
+        place.now.current.now (given place.now.cargo_home)
+        (S.view files.old) (S.view files.new) r.error) }
     ensures counted { IfErr result (λ r. CountsFault (S.view files.old) (S.view files.new) r.error) }
-    ensures requested { IfOk result (λ s. s ≢ 1) }
 {
     let args = match parse_upgrade_args(alloc, matches) {
         Ok(args) => args,
         Err(ArgsError::Memory) => return Err(RunError::from(Error::Memory)),
-        Err(ArgsError::Fault(fault)) => return Ok(print_args_error(&fault, err)),
+        Err(ArgsError::Fault(fault)) => return Ok(Reply::Usage(usage_message(alloc, &fault)?)),
     };
-    print_lookups(alloc, &args, current, cargo_home, files, out)?;
-    Ok(0)
+    let text = lookups(alloc, &args, place.current, place.cargo_home, files)?;
+    Ok(Reply::Text(text))
 }
 
-/// Runs `set-version`, and returns its exit status.
-fn run_set_version<S: Store, O: io::Write, E: io::Write>(
+/// What `set-version` answers.
+fn set_version_reply<S: Store>(
     alloc: Global,
     matches: &ArgMatches<'_>,
     current: &str,
     files: &mut S,
-    out: &mut O,
-    err: &mut E,
-) -> RunResult<u8>
-    ensures status { IfOk result (λ s. s ≤ 2) }
-    ensures answered { IfOk result (λ s. s ≡ 2 → files.new ≡ files.old) }
-    ensures checked { IfOk result (λ s. s ≡ 1 → (S.view files.old).tells ≡ true
-        → SameFiles (S.view files.old).file_at (S.view files.new).file_at) }
-    ensures fault { IfOk result (λ s. s ≡ 2 → HaveVersionFault (rows_of (found_of matches.now))) }
-    ensures done { IfOk result (λ s. s ≢ 2 → (S.view files.old).tells ≡ true
-        → HasSetVersions (rows_of (found_of matches.now)) s
-        (Appends (O.contents out.old) (O.contents out.new))
-        (Appends (E.contents err.old) (E.contents err.new))
-        current.now (S.view files.old) (S.view files.new)) }
-    ensures error { OnErr result ((S.view files.old).tells ≡ true
-        → SameFiles (S.view files.old).file_at (S.view files.new).file_at
-        ⊎ HasStoppedSetting (rows_of (found_of matches.now))
-        (Appends (O.contents out.old) (O.contents out.new))
-        (Appends (E.contents err.old) (E.contents err.new))
-        current.now (S.view files.old) (S.view files.new)) }
+) -> RunResult<Reply>
+    ensures reads { OnlyReads (S.view files.old) (S.view files.new) }
+    ensures answered { IfOk result (λ r. status_of_reply r ≡ 2 → files.new ≡ files.old) }
+    ensures reply { IfOk result (IsVersionReply (rows_of (found_of matches.now)) current.now
+        (S.view files.old)) }
+    ensures own { IfOk result HaveOwnFiles }
     ensures why { IfErr result (λ r. IsMemory r.error ⊎ HasSetVersionCause (rows_of (found_of matches.now))
         current.now (S.view files.old) (S.view files.new) r.error) }
     ensures counted { IfErr result (λ r. CountsFault (S.view files.old) (S.view files.new) r.error) }
-    ensures requested { IfOk result (λ s. s ≡ 1
-        → is_given (codes "check") (rows_of (found_of matches.now)) ≡ true) }
 {
     let args = match parse_set_version_args(alloc, matches) {
         Ok(args) => args,
         Err(ArgsError::Memory) => return Err(RunError::from(Error::Memory)),
-        Err(ArgsError::Fault(fault)) => return Ok(print_args_error(&fault, err)),
+        Err(ArgsError::Fault(fault)) => return Ok(Reply::Usage(usage_message(alloc, &fault)?)),
     };
-    let due = set_version(alloc, &args, current, files, out, err)?;
-    Ok(status_after(matches, due))
+    let check = is_given(matches, "check");
+    let effects = set_version(alloc, &args, current, files, check)?;
+    Ok(Reply::Effects(effects))
 }
 
-/// Runs a subcommand, and returns its exit status.
-pub(crate) fn run_subcommand<S: Store, T: Store + Drop, O: io::Write, E: io::Write>(
+/// What a subcommand answers. Here nothing is printed, and no file changes.
+pub(crate) fn subcommand_reply<S: Store, T: Store + Drop>(
     alloc: Global,
     subcommand: (&str, &ArgMatches<'_>),
     place: &RunFolders<'_>,
     files: &mut S,
     index_files: T,
-    out: &mut O,
-    err: &mut E,
-) -> RunResult<u8>
-    ensures status { IfOk result (λ s. s ≤ 2) }
-    ensures answered { IfOk result (λ s. s ≡ 2 → files.new ≡ files.old) }
-    ensures checked { IfOk result (λ s. s ≡ 1 → (S.view files.old).tells ≡ true
-        → SameFiles (S.view files.old).file_at (S.view files.new).file_at) }
-    ensures fault { IfOk result (λ s. s ≡ 2
-        → HasSubcommandUsageError subcommand.entry.0.now (rows_of (found_of subcommand.entry.1.now))) }
-    ensures done { IfOk result (λ s. s ≢ 2 → (S.view files.old).tells ≡ true
-        → IsDoneBy subcommand.entry.0.now (rows_of (found_of subcommand.entry.1.now)) s
-        (Appends (O.contents out.old) (O.contents out.new))
-        (Appends (E.contents err.old) (E.contents err.new))
-        (run_at place.now.current.now (given place.now.cargo_home)
-        (T.view index_files) (S.view files.old) (S.view files.new))) }
-    ensures error { OnErr result ((S.view files.old).tells ≡ true
-        → SameFiles (S.view files.old).file_at (S.view files.new).file_at
-        ⊎ IsBrokenBy subcommand.entry.0.now (rows_of (found_of subcommand.entry.1.now))
-        (Appends (O.contents out.old) (O.contents out.new))
-        (Appends (E.contents err.old) (E.contents err.new))
-        (run_at place.now.current.now (given place.now.cargo_home)
-        (T.view index_files) (S.view files.old) (S.view files.new))) }
+) -> RunResult<Reply>
+    ensures reads { OnlyReads (S.view files.old) (S.view files.new) }
+    ensures answered { IfOk result (λ r. status_of_reply r ≡ 2 → files.new ≡ files.old) }
+    ensures reply { IfOk result (IsReplyBy subcommand.entry.0.now (rows_of (found_of subcommand.entry.1.now))
+        (run_in place.now (T.view index_files) (S.view files.old) (S.view files.new))) }
+    ensures own { IfOk result HaveOwnFiles }
     ensures why { IfErr result (λ r. IsMemory r.error
-        ⊎ IsCauseBy subcommand.entry.0.now (rows_of (found_of subcommand.entry.1.now))
-        (Appends (O.contents out.old) (O.contents out.new))
-        (run_at place.now.current.now (given place.now.cargo_home)
-        (T.view index_files) (S.view files.old) (S.view files.new)) r.error) }
+        ⊎ IsCauseBy subcommand.entry.0.now (rows_of (found_of subcommand.entry.1.now)) prints_nothing
+        (run_in place.now (T.view index_files) (S.view files.old) (S.view files.new)) r.error) }
     ensures counted { IfErr result (λ r. CountsEitherFault T.view index_files
         (S.view files.old) (S.view files.new) r.error) }
-    ensures requested { IfOk result (λ s. s ≡ 1
-        → is_given (codes "check") (rows_of (found_of subcommand.entry.1.now)) ≡ true) }
 {
     let (name, matches) = subcommand;
     match name {
-        "upgrade" => run_upgrade(alloc, matches, place, files, index_files, out, err),
-        "looks" => {
-            let (current, home) = (place.current, place.cargo_home);
-            run_lookups(alloc, matches, current, home, files, out, err)
-        }
-        "set-version" => run_set_version(alloc, matches, place.current, files, out, err),
-        _ => Ok(2),
+        "upgrade" => upgrade_reply(alloc, matches, place, files, index_files),
+        "looks" => lookups_reply(alloc, matches, place, files),
+        "set-version" => set_version_reply(alloc, matches, place.current, files),
+        _ => Ok(Reply::Usage(String::new(alloc))),
     }
 }

@@ -1,15 +1,16 @@
-//! Prints errors and the messages of `clap`.
-ghost use Rattle.std.specs.Prelude.{◌≡◌, ◌⊎◌, IfErr, IfOk, IsErrAnd};
+//! Errors as they are printed, and the messages of `clap`.
+ghost use Rattle.std.specs.Prelude.{◌≡◌, IfErr, IfOk, IsErr};
 ghost use Rattle.clap.specs.Words.{kind_of};
 ghost use Rattle.edit_base.specs.Errors.{IsMemory};
-ghost use Rattle.edit_base.specs.declared.errors.Error.TheVariants.{Output};
+ghost use Rattle.edit_program.specs.Effects.{IsMessage, status_of_reply};
 ghost use Rattle.edit_program.specs.Runs.{status_of};
 
 use crate::args_error::ArgsFault;
+use crate::effects::Reply;
 use clap::error::ErrorKind;
 use edit_base::Error;
 use edit_steps::{RunError, RunResult, print_error};
-use std::alloc::Global;
+use std::alloc::{AllocError, Global};
 use std::io;
 
 /// Adds the place `standard output` to `Error::Output`: an error of standard error cannot be printed
@@ -33,36 +34,25 @@ pub fn print_failure<E: io::Write>(alloc: Global, failure: RunError, err: &mut E
     1
 }
 
-/// Prints the message of a `clap` error, and returns the exit status: 0 for help and the version, 2 for a
-/// wrong command line.
-pub(crate) fn print_clap_message<O: io::Write, E: io::Write>(
-    error: &clap::Error,
-    out: &mut O,
-    err: &mut E,
-) -> RunResult<u8>
-    ensures ok { IfOk result (λ s. s ≡ status_of (kind_of error.now)) }
-    ensures small { IfOk result (λ s. (s ≡ 0) ⊎ (s ≡ 2)) }
-    ensures memory { kind_of error.now ≡ ErrorKind.OutOfMemory → IsErrAnd result (λ r. IsMemory r.error) }
-    ensures error { IfErr result (λ r. IsMemory r.error
-        ⊎ ((r.error ≡ Output) × (status_of (kind_of error.now) ≡ 0))) }
+/// What is answered in place of arguments that do not parse: the help, the version, or a usage error.
+pub(crate) fn clap_reply(alloc: Global, error: &clap::Error) -> RunResult<Reply>
+    ensures ok { IfOk result (λ r. status_of_reply r ≡ status_of (kind_of error.now)) }
+    ensures message { IfOk result IsMessage }
+    ensures memory { kind_of error.now ≡ ErrorKind.OutOfMemory → IsErr result }
+    ensures error { IfErr result (λ r. IsMemory r.error) }
 {
     if error.kind() == ErrorKind::OutOfMemory {
         return Err(RunError::from(Error::Memory));
     }
+    let text = format!(in alloc; "{error}")?;
     if error.use_stderr() {
-        let _ = write!(err, "{error}");
-        return Ok(2);
-    }
-    match write!(out, "{error}") {
-        Ok(()) => Ok(0),
-        Err(_) => Err(RunError::from(Error::Output)),
+        Ok(Reply::Usage(text))
+    } else {
+        Ok(Reply::Text(text))
     }
 }
 
-/// Prints the error of an argument, and returns the exit status 2.
-pub(crate) fn print_args_error<E: io::Write>(fault: &ArgsFault<'_>, err: &mut E) -> u8
-    ensures { result ≡ 2 }
-{
-    let _ = writeln!(err, "error: {fault}\n\nFor more information, try '--help'.");
-    2
+/// The message of an argument that cannot be used.
+pub(crate) fn usage_message(alloc: Global, fault: &ArgsFault<'_>) -> Result<String, AllocError> {
+    format!(in alloc; "error: {fault}\n\nFor more information, try '--help'.\n")
 }

@@ -3,8 +3,9 @@
 
 mod args_error;
 mod cargo_builtin;
+mod carrying_out;
 mod commands;
-mod diffs;
+mod effects;
 mod faults;
 mod lock_planner;
 mod lookup_lines;

@@ -9,10 +9,10 @@ ghost use Rattle.edit_program.specs.Counted.{CountsEitherFault};
 ghost use Rattle.edit_program.specs.LockPlans.{HasLockPlan};
 ghost use Rattle.edit_program.specs.PlannedUpgrades.{prints_nothing};
 ghost use Rattle.edit_program.specs.ParsedUpgrade.{HaveUpgradeFault};
-ghost use Rattle.edit_program.specs.Run.{run_at};
+ghost use Rattle.edit_program.specs.Run.{run_in};
 
 use crate::args_error::ArgsError;
-use crate::faults::print_args_error;
+use crate::faults::usage_message;
 use crate::run_folders::RunFolders;
 use crate::upgrade_parser::parse_upgrade_args;
 use crate::upgrade_run::{LockPlan, plan_lock};
@@ -40,8 +40,7 @@ pub fn lock_plan<S: Store, T: Store + Drop, E: io::Write>(
         (T.view index_files) (S.view files.old).file_at p)) }
     ensures why { IfErr result (λ r. IsMemory r.error
         ⊎ HasUpgradeCause (rows_of (found_of matches.now)) prints_nothing
-        (run_at place.now.current.now (given place.now.cargo_home)
-        (T.view index_files) (S.view files.old) (S.view files.new)) r.error) }
+        (run_in place.now (T.view index_files) (S.view files.old) (S.view files.new)) r.error) }
     ensures counted { IfErr result (λ r. CountsEitherFault T.view index_files
         (S.view files.old) (S.view files.new) r.error) }
 {
@@ -49,7 +48,8 @@ pub fn lock_plan<S: Store, T: Store + Drop, E: io::Write>(
         Ok(args) => args,
         Err(ArgsError::Memory) => return Err(RunError::from(Error::Memory)),
         Err(ArgsError::Fault(fault)) => {
-            let _ = print_args_error(&fault, err);
+            let message = usage_message(alloc, &fault)?;
+            let _ = err.write_all(message.as_bytes());
             return Ok(None);
         }
     };

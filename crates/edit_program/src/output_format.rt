@@ -2,7 +2,7 @@
 ghost use Rattle.std.specs.Prelude.{◌≡◌, IfErr, IfOk, None, OnOk, Some, false, true};
 ghost use Rattle.clap.specs.Words.{found_of, rows_of};
 ghost use Rattle.edit_program.specs.ParsedOptions.{is_dry};
-ghost use Rattle.edit_program.specs.Presented.{has_color, is_color, presentation_of, format_of_options, numbered_if, status_after, upgrade_format, without_diffs};
+ghost use Rattle.edit_program.specs.Presented.{has_color, is_color, presentation_of, format_of_options, numbered_if, upgrade_format, without_diffs};
 
 use crate::args_error::{ArgsError, ArgsFault};
 use crate::lookups::{is_given, lists_rows};
@@ -130,15 +130,4 @@ pub(crate) fn is_dry(matches: &ArgMatches<'_>) -> bool
     ensures { result ≡ is_dry (rows_of (found_of matches.now)) }
 {
     is_given(matches, "dry-run") || is_given(matches, "check") || lists_rows(matches)
-}
-
-/// The exit status after a plan: 1 where `--check` is given and a file would change.
-pub(crate) fn status_after(matches: &ArgMatches<'_>, due: bool) -> u8
-    ensures { result ≡ status_after (rows_of (found_of matches.now)) due }
-{
-    if is_given(matches, "check") && due {
-        1
-    } else {
-        0
-    }
 }

@@ -3,15 +3,21 @@ ghost use Rattle.std.specs.Prelude.{◌≡◌, ◌≢◌, ◌⊎◌, ◌≤◌, 
 ghost use Rattle.std.specs.Io.KnownBytes.{Appends};
 ghost use Rattle.edit_sources.specs.Configured.{given};
 ghost use Rattle.edit_base.specs.declared.errors.details.MergedCommand.{MergedCommand};
+ghost use Rattle.edit_store.specs.Store.{OnlyReads};
 ghost use Rattle.edit_words.specs.Filled.{insert_defaults};
 ghost use Rattle.edit_program.specs.Counted.{CountsEitherFault};
+ghost use Rattle.edit_program.specs.Effects.{HaveOwnFiles, status_of_reply};
 ghost use Rattle.edit_program.specs.Merged.{first_builtin};
-ghost use Rattle.edit_program.specs.Run.{run_at};
+ghost use Rattle.edit_program.specs.PlannedUpgrades.{prints_nothing};
+ghost use Rattle.edit_program.specs.Replies.{IsReplyTo};
+ghost use Rattle.edit_program.specs.Run.{run_at, run_in};
 ghost use Rattle.edit_program.specs.Runs.{HasUsageError, HasCheckFlag, HasFailed, IsChecked, IsDone, IsEnded, IsRunFailure, IsRunCause};
 
 use crate::cargo_builtin::first_builtin;
-use crate::commands::run_subcommand;
-use crate::faults::{print_clap_message, print_failure};
+use crate::carrying_out::carry_out;
+use crate::commands::subcommand_reply;
+use crate::effects::Reply;
+use crate::faults::{clap_reply, print_failure};
 use crate::run_folders::RunFolders;
 use edit_base::Error;
 use edit_steps::{RunError, RunResult};
@@ -20,38 +26,26 @@ use edit_words::{command, insert_defaults};
 use std::alloc::Global;
 use std::io;
 
-/// Parses arguments in which all options have values, and runs the subcommand: an exit status, or an error.
-fn parse_and_run<S: Store, T: Store + Drop, O: io::Write, E: io::Write>(
+/// What the program answers to arguments in which all options have values. Here nothing is printed, and no
+/// file changes.
+fn reply_to<S: Store, T: Store + Drop>(
     alloc: Global,
     args: &[&str],
     place: &RunFolders<'_>,
     files: &mut S,
     index_files: T,
-    out: &mut O,
-    err: &mut E,
-) -> RunResult<u8>
-    ensures status { IfOk result (λ s. s ≤ 2) }
-    ensures answered { IfOk result (λ s. s ≡ 2 → files.new ≡ files.old) }
+) -> RunResult<Reply>
+    ensures reads { OnlyReads (S.view files.old) (S.view files.new) }
+    ensures answered { IfOk result (λ r. status_of_reply r ≡ 2 → files.new ≡ files.old) }
     ensures builtin { (command : MergedCommand) → first_builtin (map (λ w. w.now) args.now) ≡ Some command
         → IsErr result × (files.new ≡ files.old) }
-    ensures fault { IfOk result (λ s. s ≡ 2 → HasUsageError (map (λ w. w.now) args.now)) }
-    ensures ended { IfOk result (λ s. s ≢ 2 → (S.view files.old).tells ≡ true
-        → IsEnded (map (λ w. w.now) args.now) s (Appends (O.contents out.old) (O.contents out.new))
-        (Appends (E.contents err.old) (E.contents err.new))
-        (run_at place.now.current.now (given place.now.cargo_home)
-        (T.view index_files) (S.view files.old) (S.view files.new))) }
-    ensures error { OnErr result ((S.view files.old).tells ≡ true
-        → IsRunFailure (map (λ w. w.now) args.now) (Appends (O.contents out.old) (O.contents out.new))
-        (Appends (E.contents err.old) (E.contents err.new))
-        (run_at place.now.current.now (given place.now.cargo_home)
-        (T.view index_files) (S.view files.old) (S.view files.new))) }
-    ensures why { IfErr result (λ r. IsRunCause (map (λ w. w.now) args.now)
-        (Appends (O.contents out.old) (O.contents out.new))
-        (run_at place.now.current.now (given place.now.cargo_home)
-        (T.view index_files) (S.view files.old) (S.view files.new)) r.error) }
+    ensures reply { IfOk result (IsReplyTo (map (λ w. w.now) args.now)
+        (run_in place.now (T.view index_files) (S.view files.old) (S.view files.new))) }
+    ensures own { IfOk result HaveOwnFiles }
+    ensures why { IfErr result (λ r. IsRunCause (map (λ w. w.now) args.now) prints_nothing
+        (run_in place.now (T.view index_files) (S.view files.old) (S.view files.new)) r.error) }
     ensures counted { IfErr result (λ r. CountsEitherFault T.view index_files
         (S.view files.old) (S.view files.new) r.error) }
-    ensures requested { IfOk result (λ s. s ≡ 1 → HasCheckFlag (map (λ w. w.now) args.now)) }
 {
     if let Some(command) = first_builtin(args) {
         return Err(RunError::from(Error::Merged(command)));
@@ -59,13 +53,17 @@ fn parse_and_run<S: Store, T: Store + Drop, O: io::Write, E: io::Write>(
     let command = command(alloc)?;
     let matches = match command.try_get_matches_from(args) {
         Ok(matches) => matches,
-        Err(error) => return print_clap_message(&error, out, err),
+        Err(error) => return clap_reply(alloc, &error),
     };
     match matches.subcommand() {
-        Some((name, matches)) => {
-            run_subcommand(alloc, (name, matches), place, files, index_files, out, err)
-        }
-        None => Ok(2),
+        Some((name, matches)) => subcommand_reply(
+            alloc,
+            (name, matches),
+            place,
+            files,
+            index_files,
+        ),
+        None => Ok(Reply::Usage(String::new(alloc))),
     }
 }
 
@@ -89,25 +87,23 @@ pub fn try_run<S: Store, T: Store + Drop, O: io::Write, E: io::Write>(
         → IsEnded (insert_defaults (map (λ w. w.now) args.now)) s (Appends (O.contents out.old)
         (O.contents out.new))
         (Appends (E.contents err.old) (E.contents err.new))
-        (run_at place.now.current.now (given place.now.cargo_home)
-        (T.view index_files) (S.view files.old) (S.view files.new))) }
+        (run_in place.now (T.view index_files) (S.view files.old) (S.view files.new))) }
     ensures error { OnErr result ((S.view files.old).tells ≡ true
         → IsRunFailure (insert_defaults (map (λ w. w.now) args.now)) (Appends (O.contents out.old)
         (O.contents out.new))
         (Appends (E.contents err.old) (E.contents err.new))
-        (run_at place.now.current.now (given place.now.cargo_home)
-        (T.view index_files) (S.view files.old) (S.view files.new))) }
+        (run_in place.now (T.view index_files) (S.view files.old) (S.view files.new))) }
     ensures why { IfErr result (λ r. IsRunCause (insert_defaults (map (λ w. w.now) args.now))
         (Appends (O.contents out.old) (O.contents out.new))
-        (run_at place.now.current.now (given place.now.cargo_home)
-        (T.view index_files) (S.view files.old) (S.view files.new)) r.error) }
+        (run_in place.now (T.view index_files) (S.view files.old) (S.view files.new)) r.error) }
     ensures counted { IfErr result (λ r. CountsEitherFault T.view index_files
         (S.view files.old) (S.view files.new) r.error) }
     ensures requested { IfOk result (λ s. s ≡ 1
         → HasCheckFlag (insert_defaults (map (λ w. w.now) args.now))) }
 {
     let args = insert_defaults(alloc, args)?;
-    parse_and_run(alloc, args.as_slice(), place, files, index_files, out, err)
+    let reply = reply_to(alloc, args.as_slice(), place, files, index_files)?;
+    carry_out(alloc, reply, files, out, err)
 }
 
 /// Runs the program with these arguments, the first of which is the subcommand, and returns the exit

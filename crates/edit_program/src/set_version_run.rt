@@ -5,5 +5,5 @@ mod plan;
 mod set_version_args;
 mod set_version_output;
 
-pub use command::set_version;
+pub(crate) use command::set_version;
 pub use set_version_args::SetVersionArgs;

@@ -1,4 +1,4 @@
-//! What an upgrade prints and writes after it is planned.
+//! What an upgrade prints and writes of its plan.
 
 mod absent_crates;
 mod calls;
@@ -9,13 +9,8 @@ mod hidden_rows_note;
 mod messages;
 mod name_lists;
 mod notes;
-mod plan_checks;
-mod plan_execution;
 mod plan_output;
 mod reports;
-mod rows;
-mod task;
-mod warnings;
 
-pub use delivery::deliver;
-pub use task::DeliveryTask;
+pub(crate) use delivery::{DeliveryTask, PlanReports, plan_reports};
+pub(crate) use messages::{push_status, push_warning};

@@ -1,18 +1,13 @@
 //! Notes on the crates that a policy holds.
-ghost use Rattle.std.specs.Prelude.{◌≡◌, ◌⊎◌, IfErr, IfOk, OnOk, string_bytes};
-ghost use Rattle.std.specs.Io.KnownBytes.{Appends};
-ghost use Rattle.edit_base.specs.Errors.{IsMemory};
-ghost use Rattle.edit_base.specs.declared.errors.Error.TheVariants.{Output};
+ghost use Rattle.std.specs.Prelude.{◌≡◌, ◌++◌, IfOk, OnOk, string_bytes};
 ghost use Rattle.edit_report.specs.NameSets.{has_name};
 ghost use Rattle.plan_holds.specs.HoldNotes.{hold_notes, hold_text, note_where};
 ghost use Rattle.plan_holds.specs.RowNames.{AreRowNames};
 
-use edit_base::CargoResult;
 use edit_policy::{CratePolicy, Hold};
-use edit_report::{Row, shell_note};
+use edit_report::Row;
 use std::alloc::{AllocError, Global};
 use std::collections::BTreeSet;
-use std::io;
 
 /// The note on a crate that is held at a requirement, with the reason, where one is given.
 fn hold_text(alloc: Global, held: &CratePolicy, hold: &Hold) -> Result<String, AllocError>
@@ -40,16 +35,15 @@ fn row_names<'a>(alloc: Global, rows: &'a [Row]) -> Result<BTreeSet<&'a str>, Al
     Ok(names)
 }
 
-/// Writes the note on a crate, where it is held and its name is among those of the rows.
-fn write_hold<W: io::Write>(
+/// Appends the note on a crate, if it is held and its name is among those of the rows.
+fn push_hold(
     alloc: Global,
     names: &BTreeSet<&str>,
     held: &CratePolicy,
-    out: &mut W,
-) -> CargoResult<()>
-    ensures text { OnOk result (Appends (W.contents out.old) (W.contents out.new)
-        (note_where (has_name names.now) held.now)) }
-    ensures error { IfErr result (λ e. IsMemory e ⊎ (e ≡ Output)) }
+    text: &mut String,
+) -> Result<(), AllocError>
+    ensures { OnOk result (string_bytes text.new
+        ≡ string_bytes text.old ++ note_where (has_name names.now) held.now) }
 {
     let Some(hold) = &held.hold else {
         return Ok(());
@@ -57,28 +51,29 @@ fn write_hold<W: io::Write>(
     if !names.contains(held.name.as_str()) {
         return Ok(());
     }
-    let text = hold_text(alloc, held, hold)?;
-    shell_note(out, text.as_str())
+    let message = hold_text(alloc, held, hold)?;
+    let line = format!(in alloc; "note: {message}\n")?;
+    text.push_str(line.as_str())?;
+    Ok(())
 }
 
-/// Writes a note on each crate that a policy holds and that has one of the rows: at which requirement it is
+/// Appends a note on each crate that a policy holds and that has one of the rows: at which requirement it is
 /// held, and why.
-pub fn write_holds<W: io::Write>(
+pub fn push_holds(
     alloc: Global,
     rows: &[Row],
     crates: &[CratePolicy],
-    out: &mut W,
-) -> CargoResult<()>
-    ensures text { OnOk result (Appends (W.contents out.old) (W.contents out.new)
-        (hold_notes rows.now crates.now)) }
-    ensures error { IfErr result (λ e. IsMemory e ⊎ (e ≡ Output)) }
+    text: &mut String,
+) -> Result<(), AllocError>
+    ensures { OnOk result (string_bytes text.new
+        ≡ string_bytes text.old ++ hold_notes rows.now crates.now) }
 {
     if crates.is_empty() {
         return Ok(());
     }
     let names = row_names(alloc, rows)?;
     for held in crates {
-        write_hold(alloc, &names, held, out)?;
+        push_hold(alloc, &names, held, text)?;
     }
     Ok(())
 }

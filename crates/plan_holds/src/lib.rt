@@ -3,4 +3,4 @@
 
 mod hold_notes;
 
-pub use hold_notes::write_holds;
+pub use hold_notes::push_holds;

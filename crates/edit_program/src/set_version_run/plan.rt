@@ -1,5 +1,5 @@
 //! The plan for the workspace.
-ghost use Rattle.std.specs.Prelude.{◌≡◌, ◌≢◌, All, IfErr, IfOk};
+ghost use Rattle.std.specs.Prelude.{◌≢◌, All, IfErr, IfOk};
 ghost use Rattle.edit_base.specs.Errors.{number_of};
 ghost use Rattle.edit_metadata.specs.Inputs.{AreInputs};
 ghost use Rattle.edit_metadata.specs.Workspaces.{HasOwnFolders, workspace_view};
@@ -9,11 +9,10 @@ ghost use Rattle.edit_set_version.specs.Selections.{selection_view};
 ghost use Rattle.edit_version.specs.Laws.{IsReadable};
 ghost use Rattle.semver.specs.Identifiers.{parts_of};
 ghost use Rattle.edit_program.specs.Plans.{IsVersionPlan};
-ghost use Rattle.edit_program.specs.SetVersions.{has_some, no_rust, outputs_to_write};
+ghost use Rattle.edit_program.specs.SetVersions.{no_rust};
 
 use crate::set_version_run::set_version_args::SetVersionArgs;
 use edit_diagnostics::explain_set_version;
-use edit_report::Output;
 use edit_set_version::{SetVersionPlan, plan_versions};
 use edit_steps::{ReadWorkspace, RunResult};
 use std::alloc::Global;
@@ -40,25 +39,4 @@ pub(crate) fn plan_for(
         Ok(plan) => Ok(plan),
         Err(failure) => Err(explain_set_version(alloc, failure, selection, workspace)),
     }
-}
-
-/// The outputs to write: none with a dry run.
-pub(crate) fn outputs_to_write<'a>(
-    args: &SetVersionArgs<'_>,
-    plan: &'a SetVersionPlan,
-) -> &'a [Output]
-    ensures { result.now ≡ outputs_to_write args.now plan.entry.now.outputs.items }
-{
-    if args.dry_run {
-        &[]
-    } else {
-        plan.outputs.as_slice()
-    }
-}
-
-/// Whether a plan has an output, even where a dry run writes none.
-pub(crate) fn has_some(plan: &SetVersionPlan) -> bool
-    ensures { result ≡ has_some plan.now.outputs.items }
-{
-    !plan.outputs.is_empty()
 }

@@ -1,7 +1,7 @@
 //! The note on rows that a report does not show.
-ghost use Rattle.std.specs.Prelude.{◌≡◌, ◌++◌, [], IfErr, IfOk, OnOk, codes, fold, map, string_bytes};
+ghost use Rattle.std.specs.Prelude.{◌≡◌, ◌++◌, IfErr, IfOk, OnOk, codes, map, string_bytes};
 ghost use Rattle.edit_base.specs.Errors.{IsMemory};
-ghost use Rattle.edit_program.specs.StderrText.{add_name, hidden_rows, hidden_text, names_of, names_text, or_latest, reason_line, reason_in_notes, rerun, with_name};
+ghost use Rattle.edit_program.specs.StderrText.{add_name, hidden_rows, hidden_text, names_of, names_text, reason_line, reason_in_notes, rerun};
 
 use edit_base::CargoResult;
 use edit_report::{Row, is_row_shown, is_unreadable, name_text, reason_text};

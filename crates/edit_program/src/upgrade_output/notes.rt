@@ -1,19 +1,21 @@
 //! The notes at the end of an upgrade: how to see or raise more.
-ghost use Rattle.std.specs.Prelude.{◌≡◌, ◌++◌, IfErr, OnOk, string_bytes};
+ghost use Rattle.std.specs.Prelude.{◌≡◌, ◌++◌, IfErr, IfOk, OnOk, string_bytes};
 ghost use Rattle.edit_base.specs.Errors.{IsMemory};
+ghost use Rattle.plan_holds.specs.HoldNotes.{hold_notes};
 ghost use Rattle.edit_program.specs.Delivery.{delivery_of};
 ghost use Rattle.edit_program.specs.StderrText.{hidden_rows, hidden_note, is_dry_run_noted, note, notes, warning, message_if};
 
 use crate::upgrade_output::absent_crates::push_absent_note;
+use crate::upgrade_output::delivery::DeliveryTask;
 use crate::upgrade_output::held_back_notes::push_held_back;
 use crate::upgrade_output::hidden_rows_note::{hidden_rows, hidden_text};
 use crate::upgrade_output::messages::{push_note, push_warning};
 use crate::upgrade_output::name_lists::{Noun, push_list};
-use crate::upgrade_output::task::DeliveryTask;
 use edit_base::CargoResult;
 use edit_report::Row;
 use edit_shown::MessageFormat;
 use edit_upgrade::Options;
+use plan_holds::push_holds;
 use std::alloc::{AllocError, Global};
 
 const PINNED: &str = "Re-run with `--pinned` to upgrade pinned version requirements";
@@ -90,11 +92,7 @@ fn is_dry_run_noted(options: &Options, format: MessageFormat) -> bool
 /// Appends the notes on a plan, the note on crates in more than one compatible range, the warning that a dry
 /// run wrote nothing, the note on crates missing in the index, and the notes on what was held back for the
 /// age of versions.
-pub(crate) fn push_notes(
-    alloc: Global,
-    task: &DeliveryTask<'_>,
-    text: &mut String,
-) -> CargoResult<()>
+fn push_notes(alloc: Global, task: &DeliveryTask<'_>, text: &mut String) -> CargoResult<()>
     ensures text { OnOk result (string_bytes text.new
         ≡ string_bytes text.old ++ notes (delivery_of task.now)) }
     ensures error { IfErr result IsMemory }
@@ -108,4 +106,16 @@ pub(crate) fn push_notes(
     push_warning_if(alloc, is_noted, DRY_RUN, text)?;
     push_absent_note(alloc, plan, options, task.offline, text)?;
     push_held_back(alloc, plan, options, text)
+}
+
+/// The notes on the crates that the policy holds, and on the plan, as text.
+pub(crate) fn notes_text(alloc: Global, task: &DeliveryTask<'_>) -> CargoResult<Vec<u8>>
+    ensures text { IfOk result (λ text. text.items
+        ≡ hold_notes task.now.plan.now.rows.items task.now.crates.now ++ notes (delivery_of task.now)) }
+    ensures error { IfErr result IsMemory }
+{
+    let mut text = String::new(alloc);
+    push_holds(alloc, task.plan.rows.as_slice(), task.crates, &mut text)?;
+    push_notes(alloc, task, &mut text)?;
+    Ok(text.into_bytes())
 }

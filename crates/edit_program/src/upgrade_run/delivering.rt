@@ -1,21 +1,18 @@
 //! How a plan is printed and written, from the arguments.
-ghost use Rattle.std.specs.Prelude.{◌≡◌, IfErr, IfOk, map, option_map, string_bytes};
+ghost use Rattle.std.specs.Prelude.{◌≡◌, IfErr, IfOk, option_map, string_bytes};
 ghost use Rattle.edit_base.specs.Errors.{IsMemory};
-ghost use Rattle.edit_lock.specs.Views.{lock_view};
 ghost use Rattle.edit_metadata.specs.Workspaces.{workspace_view};
 ghost use Rattle.edit_sources.specs.Configured.{given};
 ghost use Rattle.edit_program.specs.Delivery.{delivery_of};
-ghost use Rattle.edit_program.specs.Upgrading.{IsPathOf, called_workspace, delivery_by, diff_root, has_outputs, keeps_lock};
+ghost use Rattle.edit_program.specs.UpgradeEffects.{planned_delivery};
+ghost use Rattle.edit_program.specs.Upgrading.{IsPathOf, called_workspace, diff_root, keeps_lock};
 
 use crate::upgrade_output::DeliveryTask;
-use crate::upgrade_run::revising::RevisedPlan;
+use crate::upgrade_run::planning::PlannedUpgrade;
 use crate::upgrade_run::upgrade_args::UpgradeArgs;
 use edit_base::CargoResult;
-use edit_lock::Lock;
 use edit_metadata::Workspace;
-use edit_policy::CratePolicy;
 use edit_steps::absolute_path;
-use edit_steps::upgrade_read::Target;
 use edit_upgrade::UpgradePlan;
 use std::alloc::Global;
 
@@ -38,7 +35,7 @@ pub(crate) fn path_of(
 
 /// The folder that paths in diffs are relative to: the workspace's root, where there is one, else the
 /// current folder.
-fn diff_root<'a>(workspace: Option<&'a Workspace>, current: &'a str) -> &'a str
+pub(crate) fn diff_root<'a>(workspace: Option<&'a Workspace>, current: &'a str) -> &'a str
     ensures { result.now ≡ diff_root current.now (option_map (λ w. workspace_view w.now) workspace.entry) }
 {
     match workspace {
@@ -62,22 +59,22 @@ fn called_workspace(keeps_lock: bool, workspace: Option<&Workspace>) -> Option<&
     if keeps_lock { None } else { workspace }
 }
 
-/// How the plan for these manifests is printed and written, from the arguments and from what the policy says
-/// of crates. `path` is that of the file for the calls, which are adapted to the lock file where there is
-/// one.
+/// How a plan is printed and written, as its arguments request it. `path` names the file for the calls. They
+/// are adapted to the lock file, if one was read.
 pub(crate) fn delivery_task<'a>(
-    args: &'a UpgradeArgs<'_>,
+    planned: &'a PlannedUpgrade<'_>,
     current: &'a str,
-    target: &'a Target,
-    revised: &'a RevisedPlan,
-    crates: &'a [CratePolicy],
     path: Option<&'a str>,
-    lock: Option<&'a Lock>,
 ) -> DeliveryTask<'a>
-    ensures { delivery_of result ≡ delivery_by args.entry.now current.now revised.entry.now.plan
-        (map string_bytes revised.entry.now.apart.items) target.entry.now crates.entry.now (given path.entry)
-        (option_map (λ l. lock_view l.now) lock.entry) }
+    ensures { delivery_of result ≡ planned_delivery planned.entry.now current.now (given path.entry) }
 {
+    let PlannedUpgrade {
+        target,
+        lock,
+        policy,
+        args,
+        revised,
+    } = planned;
     let workspace = target.workspace.as_ref();
     DeliveryTask {
         plan: &revised.plan,
@@ -88,15 +85,8 @@ pub(crate) fn delivery_task<'a>(
         root: diff_root(workspace, current),
         presentation: args.presentation,
         update_calls: path,
-        lock,
+        lock: lock.as_ref(),
         offline: args.offline,
-        crates,
+        crates: policy.crates.as_slice(),
     }
-}
-
-/// Whether a plan changes a manifest.
-pub(crate) fn has_outputs(plan: &UpgradePlan) -> bool
-    ensures { result ≡ has_outputs plan.now }
-{
-    !plan.outputs.is_empty()
 }

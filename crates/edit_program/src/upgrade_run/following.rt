@@ -13,8 +13,7 @@ ghost use Rattle.edit_program.specs.Planned.{to_request};
 ghost use Rattle.edit_program.specs.UpgradeErrors.{IsReadingError};
 
 use crate::upgrade_run::merging::merge_args;
-use crate::upgrade_run::policy_age::policy_bound;
-use crate::upgrade_run::policy_reading::read_policy;
+use crate::upgrade_run::policy_reading::{policy_bound, read_policy};
 use crate::upgrade_run::reading::{ReadFiles, read_files};
 use crate::upgrade_run::upgrade_args::UpgradeArgs;
 use edit_lock::Lock;

@@ -5,7 +5,7 @@ ghost use Rattle.edit_store.specs.Store.{OnlyReads};
 ghost use Rattle.edit_program.specs.Counted.{CountsEitherFault};
 ghost use Rattle.edit_program.specs.LockPlans.{IsLockPlan};
 ghost use Rattle.edit_program.specs.PlannedUpgrades.{prints_nothing};
-ghost use Rattle.edit_program.specs.Run.{run_at};
+ghost use Rattle.edit_program.specs.Run.{run_in};
 ghost use Rattle.edit_program.specs.UpgradeCauses.{IsUpgradeCause};
 
 use crate::run_folders::RunFolders;
@@ -45,8 +45,7 @@ pub fn plan_lock<S: Store, T: Store + Drop>(
         (T.view index_files) (S.view files.old).file_at p) }
     // each error has its cause, one of those that `upgrade` has before it prints
     ensures why { IfErr result (λ r. IsUpgradeCause prints_nothing args.now
-        (run_at place.now.current.now (given place.now.cargo_home)
-        (T.view index_files) (S.view files.old) (S.view files.new)) r.error) }
+        (run_in place.now (T.view index_files) (S.view files.old) (S.view files.new)) r.error) }
     // over any stores, an error of a device is counted
     ensures counted { IfErr result (λ r. CountsEitherFault T.view index_files
         (S.view files.old) (S.view files.new) r.error) }

@@ -4,7 +4,7 @@ use Rattle.edit_program.proofs.lock_planner.lock_plan.Goals as goal
 
 pub returns-in_err-planned-clause-why : goal.returns-in_err-planned-clause-why
 returns-in_err-planned-clause-why g c =
-    failure_has c.from_residual.result c.in_err-planned.field-0.0 _ c.from_residual.ensures.1 (inr (record {
+    failure_has c.from_residual-in_err-planned.result c.in_err-planned.field-0.0 _ c.from_residual-in_err-planned.ensures.1 (inr (record {
       args = c.in-Ok.args;
       asks = c.in-Ok.ensures.asks;
       cause = c.in_err-planned.ensures.why;

@@ -1,4 +1,4 @@
-use Rattle.std.proofs.Common.{◌∙◌, [], Bool, Option, Some, ap, ap₂, codes, refl, sym}
+use Rattle.std.proofs.Common.{◌∙◌, [], Bool, Some, ap, ap₂, codes, refl, sym}
 use Rattle.std.specs.Prelude.{option_map}
 use Rattle.clap.specs.Words.{found_of, rows_of}
 use Rattle.edit_shown.specs.declared.presentation.Presentation.{Presentation}

@@ -1,6 +1,6 @@
 use Rattle.std.proofs.Common.{◌≡◌, Option, codes, refl, subst}
 use Rattle.std.proofs.lemmas.Result.{IfErr-weaker, IfOk-weaker}
-use Rattle.clap.specs.Words.{Text, first_of, found_of, rows_of}
+use Rattle.clap.specs.Words.{Text}
 use Rattle.edit_program.specs.ParsedBound.{HasNoBound, IsBound}
 use Rattle.edit_program.proofs.ArgsLemmas.{option_text_is}
 use Rattle.edit_program.proofs.publication_bound.publication_bound.Goals as goal

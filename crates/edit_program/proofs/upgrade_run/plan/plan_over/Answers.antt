@@ -1,4 +1,4 @@
-use Rattle.std.proofs.Common.{◌≡◌, List, ℕ, subst, sym}
+use Rattle.std.proofs.Common.{List, ℕ, subst, sym}
 use Rattle.std.proofs.lemmas.Result.{IfOk-weaker, on_ok_weaker}
 use Rattle.std.specs.Global.{Vec}
 use Rattle.std.specs.Prelude.{◌⊎◌, IfErr, IfOk}
@@ -9,9 +9,7 @@ use Rattle.edit_restricted_index.specs.VersionTests.{test_of}
 use Rattle.edit_metadata.specs.declared.input.Input.{Input}
 use Rattle.edit_sources.specs.Index.{IndexView}
 use Rattle.edit_sources.specs.declared.config.Config.{Config}
-use Rattle.edit_tree.specs.DocumentViews.{DocumentViews}
 use Rattle.edit_steps.specs.Shared.{lists_for}
-use Rattle.edit_steps.specs.Sources.{AreDocuments}
 use Rattle.edit_upgrade.specs.ConfigLists.{AreIndices, chosen_lists}
 use Rattle.edit_upgrade.specs.Revisions.{AreUtf8}
 use Rattle.edit_program.specs.Planned.{IsPlanCause, IsPlanned}

@@ -1,5 +1,4 @@
-use Rattle.std.proofs.Common.{◌∙◌, List, Option, String, ap, inl, inr, map, option_map, refl, string_bytes, subst, sym, ⊎_elim}
-use Rattle.std.specs.Global.{Vec}
+use Rattle.std.proofs.Common.{List, Option, String, inl, inr, map, option_map, refl, string_bytes, subst, ⊎_elim}
 use Rattle.std.specs.declared.alloc.Global.{Global}
 use Rattle.std.specs.Prelude.{◌⊎◌}
 use Rattle.edit_base.specs.Errors.{IsMemory}
