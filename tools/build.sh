@@ -44,7 +44,7 @@ mkdir "$copy/crates"
 cp "$here/HANDLES" "$copy"
 printf '%s\n' "$lines" > "$copy/crates.txt"
 printf '%s\n' "$lines" | while IFS=' :' read -r name _; do
-    (cd "$here/crates" && tar --exclude=out --exclude=wrong-bodies --exclude=more-wrong-bodies -cf - "$name") \
+    (cd "$here/crates" && tar --exclude=out --exclude=mutants --exclude=more-mutants -cf - "$name") \
         | tar -xf - -C "$copy/crates"
 done
 

@@ -9,20 +9,20 @@ from source import Source, texts
 
 
 def listed(crate, kind):
-    """The edits in a crate's folder of this kind; what else lies there is a failure."""
+    """The mutants in a crate's folder of this kind; what else lies there is a failure."""
     folder = os.path.join(crate.folder, kind)
     names = sorted(os.listdir(folder)) if os.path.isdir(folder) else []
     odd = [name for name in names if not name.endswith((".edit", ".md"))]
     if odd:
-        sys.exit("wrong_bodies: %s/%s is no edit" % (folder, odd[0]))
+        sys.exit("mutants: %s/%s is no mutant" % (folder, odd[0]))
     return [os.path.join(folder, name) for name in names if name.endswith(".edit")]
 
 
 def chosen(crates, args, kind):
-    """The edits that are to be tried, by the names of their crates."""
+    """The mutants that are to be tried, by the names of their crates."""
     lost = {os.path.dirname(it) for it in glob.glob("crates/*/" + kind)} - {"crates/" + it.name for it in crates}
     if lost:
-        sys.exit("wrong_bodies: crates.txt does not name %s, which has mutants" % sorted(lost)[0])
+        sys.exit("mutants: crates.txt does not name %s, which has mutants" % sorted(lost)[0])
     found = {crate.name: listed(crate, kind) for crate in crates}
     if not args:
         return found
@@ -31,7 +31,7 @@ def chosen(crates, args, kind):
         folder = os.path.dirname(os.path.dirname(os.path.abspath(arg)))
         crate = next((it.name for it in crates if it.name == arg or arg.endswith(".edit") and it.folder == folder), None)
         if crate is None or arg.endswith(".edit") and not os.path.isfile(arg):
-            sys.exit("wrong_bodies: crates.txt names no crate %s, and it is no edit of one" % arg)
+            sys.exit("mutants: crates.txt names no crate %s, and it is no mutant of one" % arg)
         wanted.setdefault(crate, []).extend([os.path.abspath(arg)] if arg.endswith(".edit") else found[crate])
     return {crate: list(dict.fromkeys(files)) for crate, files in wanted.items()}
 
@@ -56,11 +56,11 @@ def third(crate, files, sources):
 
 
 def without_mutants(crates, wanted, kind):
-    """The crates among those that are wanted that have no edit of this kind and should have one: a folder of this kind
-    stands there, or, of the kind that the gate tries, a public function has an `ensures`."""
+    """The crates among those that are wanted that have no mutant of this kind and should have one: they have a folder of this
+    kind, or, of the kind that the gate tries, a public function has an `ensures`."""
     return [
         crate.name for crate in crates if crate.name in wanted and not wanted[crate.name]
-        and (os.path.isdir(os.path.join(crate.folder, kind)) or kind == "wrong-bodies" and has_contracts(crate.folder))]
+        and (os.path.isdir(os.path.join(crate.folder, kind)) or kind == "mutants" and has_contracts(crate.folder))]
 
 
 def has_contracts(folder):

@@ -15,8 +15,8 @@ import sys
 ROOT = os.path.realpath(os.path.join(os.path.dirname(__file__), "..", ".."))
 NO_SOURCES = {".git", "build", "out", "target", "node_modules", "__pycache__"}
 TOP = {".ci", "bench", "bin", "crates", "docs", "examples", "release", "share", "tests", "tools"}
-PLACEHOLDER = re.compile(r"\b(?:CHAPTER|COMMAND|CRATE|FILE|FUNCTION|NAME|NNNN)\b")
-IN_CRATE = {"more-wrong-bodies", "proofs", "specs", "src", "wrong-bodies"}
+PLACEHOLDER = re.compile(r"\b(?:CHAPTER|COMMAND|CRATE|FAULT|FILE|FUNCTION|NAME|NNNN)\b")
+IN_CRATE = {"more-mutants", "mutants", "proofs", "specs", "src"}
 FENCE = re.compile(r"(?ms)^(```|~~~).*?^\1[^\n]*$")
 QUOTED = re.compile(r"(?s)\bfrom `(crates/[\w/.]+|[\w/.]+\.rt)`[^`]*\n+```rust\n(.*?)\n```")
 SPAN = re.compile(r"`([^`\n]+)`")

@@ -36,7 +36,7 @@ stand_in "$room/bin/apt-get" "echo \"\$*\" >> '$room/installed'"
 # shellcheck disable=SC2016
 stand_in "$room/bin/sudo" 'shift; exec "$@"'
 stand_in "$room/bin/rt" "echo run >> '$room/rt'; echo '3 passed, 0 failed'"
-stand_in tools/wrong_bodies "echo \"\$*\" > '$room/words'; echo '2 refused, 0 let through'"
+stand_in tools/mutants "echo \"\$*\" > '$room/words'; echo '2 refused, 0 let through'"
 stand_in tools/checks/one.sh ':'
 gate() { env -u CI "PATH=$room/bin" "$@"; }
 
@@ -78,13 +78,13 @@ runs 0 gate .ci/run --landed abc
 [ "$(sed -n 2p build/gate)" = 'landed abc' ] || fails 'the commit is not noted'
 runs 1 gate .ci/run --landed other
 [ "$(tail -n 1 "$room/out")" = '0 passed, 1 failed' ] || fails 'another last line'
-stand_in tools/wrong_bodies "echo '1 refused, 1 let through'; exit 1"
+stand_in tools/mutants "echo '1 refused, 1 let through'; exit 1"
 runs 1 gate .ci/run
 [ "$(tail -n 1 "$room/out")" = '5 passed, 1 failed' ] || fails 'another last line'
-stand_in tools/wrong_bodies 'exit 1'
+stand_in tools/mutants 'exit 1'
 runs 1 gate .ci/run
 [ "$(tail -n 1 "$room/out")" = '4 passed, 1 failed' ] || fails 'another last line'
-stand_in tools/wrong_bodies "echo '2 refused, 0 let through'"
+stand_in tools/mutants "echo '2 refused, 0 let through'"
 stand_in tools/checks/two.sh 'exit 1'
 runs 1 gate .ci/run
 [ "$(tail -n 1 "$room/out")" = '6 passed, 1 failed' ] || fails 'another last line'

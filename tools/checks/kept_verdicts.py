@@ -1,4 +1,4 @@
-"""Tests which mutants tools/wrong_bodies tries, which verdicts of earlier runs it takes over, and how it tries a second
+"""Tests which mutants tools/mutants tries, which verdicts of earlier runs it takes over, and how it tries a second
 mutant of one function: tools/mutant_files.py, tools/verdicts.py, tools/twins.py, without the prover."""
 import contextlib
 import io
@@ -13,7 +13,7 @@ sys.dont_write_bytecode = True
 import mutants  # noqa: E402
 from edits import Report, judged  # noqa: E402
 from mutant_files import changed_crates, sums_of, third  # noqa: E402
-from mutants import COUNT, ENDED, OPEN, TOOLS, wrong_bodies  # noqa: E402
+from mutants import COUNT, ENDED, OPEN, TOOLS, tool  # noqa: E402
 from trial import together  # noqa: E402
 from twins import copy_proof  # noqa: E402
 from verdicts import Verdicts  # noqa: E402
@@ -105,15 +105,15 @@ class Verdict(mutants.Room):
     def test_mutants_without_a_kept_verdict_are_listed(self):
         listed = io.StringIO()
         with contextlib.redirect_stdout(listed):
-            status = wrong_bodies.list_missing([self.trial()])
-        self.assertEqual((status, listed.getvalue()), (1, "crates/a/wrong-bodies/edit-0.edit\n0 kept, 1 not\n"))
+            status = tool.list_missing([self.trial()])
+        self.assertEqual((status, listed.getvalue()), (1, "crates/a/mutants/edit-0.edit\n0 kept, 1 not\n"))
         self.tried()
         with contextlib.redirect_stdout(io.StringIO()) as listed:
-            status = wrong_bodies.list_missing([self.trial()])
+            status = tool.list_missing([self.trial()])
         self.assertEqual((status, listed.getvalue().split("\n")[-2]), (0, "1 kept, 0 not"))
 
     def test_a_third_is_drawn_by_the_sources(self):
-        files = ["crates/a/wrong-bodies/%d.edit" % number for number in range(10)]
+        files = ["crates/a/mutants/%d.edit" % number for number in range(10)]
         drawn = third("a", files, "1")
         self.assertEqual(len(drawn), 4)
         self.assertEqual(drawn, third("a", files, "1"))
@@ -128,7 +128,7 @@ class Verdict(mutants.Room):
         for name in ("HANDLES", "crates.txt"):
             self.write("../../" + name, "")
         shutil.copytree(self.folder, os.path.join(self.folder, "..", "b"))
-        wanted = {name: [self.write("../%s/wrong-bodies/%d.edit" % (name, it), COUNT) for it in range(9)] for name in "ab"}
+        wanted = {name: [self.write("../%s/mutants/%d.edit" % (name, it), COUNT) for it in range(9)] for name in "ab"}
 
         def sums():
             return subprocess.run(["tools/sources", "--crates"], capture_output=True, text=True, check=True).stdout
@@ -137,7 +137,7 @@ class Verdict(mutants.Room):
 
         def count():
             with contextlib.redirect_stdout(io.StringIO()) as said:
-                chosen = wrong_bodies.only_a_third(wanted, verdicts)
+                chosen = tool.only_a_third(wanted, verdicts)
             return {it: len(files) for it, files in chosen.items()}, said.getvalue()
 
         self.assertEqual(count(), ({"a": 9, "b": 9}, "chosen: 18 of 18 mutants: all, as each crate changed since the release\n"))
@@ -152,7 +152,7 @@ class Verdict(mutants.Room):
         self.assertEqual(count()[0], {"a": 3, "b": 9})
         verdicts.mark("b", COUNT, False)
         self.assertEqual(count()[0], {"a": 3, "b": 3})
-        for path in ("src/tree.rt", "specs/New.antt", "wrong-bodies/0.edit"):
+        for path in ("src/tree.rt", "specs/New.antt", "mutants/0.edit"):
             self.write(path, "other\n")
             chosen, said = count()
             self.assertEqual(chosen, {"a": 9, "b": 3}, path)

@@ -1,4 +1,4 @@
-"""Tests the parts of tools/wrong_bodies that need no prover: tools/edits.py, tools/source.py, tools/mutant_files.py,
+"""Tests the parts of tools/mutants that need no prover: tools/edits.py, tools/source.py, tools/mutant_files.py,
 tools/contracts_alone.py, and that unchanged functions are proved before changed ones."""
 import collections
 import importlib.machinery
@@ -19,10 +19,9 @@ from source import Source  # noqa: E402
 from trial import Trial  # noqa: E402
 from verdicts import Verdicts  # noqa: E402
 
-loader = importlib.machinery.SourceFileLoader("wrong_bodies", os.path.join(TOOLS, "wrong_bodies"))
-wrong_bodies = importlib.util.module_from_spec(importlib.util.spec_from_loader("wrong_bodies", loader))
-loader.exec_module(wrong_bodies)
-
+loader = importlib.machinery.SourceFileLoader("tool", os.path.join(TOOLS, "mutants"))
+tool = importlib.util.module_from_spec(importlib.util.spec_from_loader("tool", loader))
+loader.exec_module(tool)
 
 
 class Crate(collections.namedtuple("Crate", "name folder libraries", defaults=[()])):
@@ -75,7 +74,7 @@ class Room(unittest.TestCase):
     def trial(self, edits=(COUNT,), is_proved=True, lines=(OPEN,), kit="kit", **chosen):
         """The trial of these mutants, by recorded checks; `checked` says of each whether it had a mutant."""
         options = types.SimpleNamespace(**{"proved": False, "alone": False, "after": None, "warm": False, **chosen})
-        files = [self.write("wrong-bodies/edit-%d.edit" % number, text) for number, text in enumerate(edits)]
+        files = [self.write("mutants/edit-%d.edit" % number, text) for number, text in enumerate(edits)]
         self.write("../low/src/lib.rt", "pub fn low() {}\n") if not os.path.isdir("crates/low") else None
         verdicts = Verdicts(kit, os.path.abspath("kept"), not chosen.get("anew"))
         trial = Trial(None, Crate("a", self.folder, ("low",)), files, options, verdicts)
@@ -96,7 +95,7 @@ class Room(unittest.TestCase):
 
 class Mutants(Room):
     def edit(self, text):
-        return Edit(self.write("wrong-bodies/one.edit", text), Source(self.folder))
+        return Edit(self.write("mutants/one.edit", text), Source(self.folder))
 
     def verdict(self, report, edit=COUNT, changed=()):
         edit = self.edit(edit)
@@ -168,18 +167,18 @@ class Mutants(Room):
     def test_a_crate_without_mutants_fails(self):
         crate = Crate("a", self.folder)
         bare = lambda kind, args=(): without_mutants([crate], chosen([crate], args, kind), kind)
-        self.assertEqual(bare("wrong-bodies"), ["a"])
-        self.assertEqual(bare("more-wrong-bodies"), [])
-        os.makedirs(os.path.join(self.folder, "more-wrong-bodies"))
-        self.assertEqual(bare("more-wrong-bodies"), ["a"])
-        edit = self.write("wrong-bodies/one.edit", COUNT)
-        self.assertEqual(bare("wrong-bodies"), [])
-        self.assertEqual(bare("wrong-bodies", [edit]), [])
+        self.assertEqual(bare("mutants"), ["a"])
+        self.assertEqual(bare("more-mutants"), [])
+        os.makedirs(os.path.join(self.folder, "more-mutants"))
+        self.assertEqual(bare("more-mutants"), ["a"])
+        edit = self.write("mutants/one.edit", COUNT)
+        self.assertEqual(bare("mutants"), [])
+        self.assertEqual(bare("mutants", [edit]), [])
         os.remove(edit)
-        self.assertEqual(bare("wrong-bodies", ["a"]), ["a"])
+        self.assertEqual(bare("mutants", ["a"]), ["a"])
         self.write("src/lib.rt", FILES["src/lib.rt"].replace("pub fn", "fn"))
         os.rmdir(os.path.dirname(edit))
-        self.assertEqual(bare("wrong-bodies"), [])
+        self.assertEqual(bare("mutants"), [])
 
     def test_other_functions_have_their_contracts_alone(self):
         leave_contracts(self.folder, "a", {"tree::Tree::depth"})

@@ -57,8 +57,8 @@ cp "$program" crates/edit_cli/out/edit_cli
 echo "$(tools/sources) $(sha256sum < "$program")" > build/gate
 rm -r release
 export XDG_CACHE_HOME=$room/cache
-says 1 'run tools/wrong_bodies --proved, which tries them' make
-says 1 'crates/edit_unify/wrong-bodies/lists_no_crate.edit' make
+says 1 'run tools/mutants --proved, which tries them' make
+says 1 'crates/edit_unify/mutants/add_name-lists_no_crate.edit' make
 [ ! -e release ] || { echo "release.sh: a release was made"; exit 1; }
 cat > "$room/keep.py" << 'END'
 import glob, os, sys
@@ -70,7 +70,7 @@ kit = toolchain()
 verdicts = Verdicts(kit_sum(kit), usual_folder())
 for crate in kit.rtlib.crates_below(os.getcwd()):
     state = verdicts.state(crate)
-    for file in glob.glob(crate.folder + "/wrong-bodies/*.edit"):
+    for file in glob.glob(crate.folder + "/mutants/*.edit"):
         with open(file, encoding="utf-8") as it:
             verdicts.keep(verdicts.name(state, it.read()), "kept by a test")
 END
@@ -92,12 +92,12 @@ tools/release --share
 says 0 'the sources give the released program, byte for byte'
 tools/sources --crates | diff - <(tail -n +2 release/SOURCES)
 [ "$(head -n 1 release/SOURCES)" = "$(tools/sources)" ]
-tools/wrong_bodies --third --kept > "$room/out"
+tools/mutants --third --kept > "$room/out"
 grep -q '^chosen: .* a third, as no crate changed since the release$' "$room/out" || { cat "$room/out"; exit 1; }
 # an edit that changed was not tried
-echo 'differs: an input' >> crates/edit_unify/wrong-bodies/lists_no_crate.edit
+echo 'differs: an input' >> crates/edit_unify/mutants/add_name-lists_no_crate.edit
 echo "$(tools/sources) $(sha256sum < "$program")" > build/gate
-says 1 'crates/edit_unify/wrong-bodies/lists_no_crate.edit' make
+says 1 'crates/edit_unify/mutants/add_name-lists_no_crate.edit' make
 says 1 ' kept, 1 not' make
 
 # or CI tried the mutants, over a commit that landed: all of them, but for crates as in the release that this commit had, of
@@ -112,7 +112,7 @@ says 0 'by the gate of HEAD or on this machine' make
 says 0 'the sources give the released program, byte for byte'
 land 'with the release of its sources'
 says 1 'as in the release that HEAD had, and of these no verdict is kept' make
-says 1 'crates/edit_unify/wrong-bodies/lists_no_crate.edit' make
+says 1 'crates/edit_unify/mutants/add_name-lists_no_crate.edit' make
 says 0 'by the gate of HEAD~1 or on this machine' tried HEAD~1
 python3 "$room/keep.py"
 says 0 'by the gate of HEAD or on this machine' make
