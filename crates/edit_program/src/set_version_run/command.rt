@@ -29,14 +29,12 @@ fn diffs_for(due: bool, read: ReadWorkspace) -> Option<Diffs>
     ensures { (outputs : List Output) → diffs_in result outputs
         ≡ diffs_if due (string_bytes read.workspace.root) read.inputs.items outputs }
 {
-    if due {
-        Some(Diffs {
-            root: read.workspace.root,
-            inputs: read.inputs,
-        })
-    } else {
-        None
+    if !due {
+        return None;
     }
+    let ReadWorkspace { workspace, inputs } = read;
+    let root = workspace.root;
+    Some(Diffs { root, inputs })
 }
 
 /// What is printed and written of a plan, after some messages.
