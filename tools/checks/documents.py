@@ -2,8 +2,8 @@
 """documents.py [FILE ..]: checks that what Markdown files name exists (all of the repository's, where none is given).
 
 Checked are links: the file exists, and has the heading behind `#`. And paths in code spans: those that begin with a
-folder of the repository, with a crate's name, or, in a crate's README, with a folder of that crate, and names of Markdown
-files. NAME and such (`crates/NAME/src`) stand for any name, `*` for any part of one. Prints a line for each that is not
+folder of the repository, with a crate's name, or, in a crate's README, with a folder of that crate, names of Markdown
+files, names of shell scripts, and files of tests/cases as `upgrade/diffs.toml`. NAME and such (`crates/NAME/src`) stand for any name, `*` for any part of one. Prints a line for each that is not
 there; the status is 1 then. An example after "from `FILE`" has to be in that file too, except for spaces."""
 
 import functools
@@ -17,6 +17,7 @@ NO_SOURCES = {".git", "build", "out", "target", "node_modules", "__pycache__"}
 TOP = {".ci", "bench", "bin", "crates", "docs", "examples", "release", "share", "tests", "tools"}
 PLACEHOLDER = re.compile(r"\b(?:CHAPTER|COMMAND|CRATE|FAULT|FILE|FUNCTION|NAME|NNNN)\b")
 IN_CRATE = {"more-mutants", "mutants", "proofs", "specs", "src"}
+SCRIPTS = ("", "tools/", "tools/checks/", "share/cargo-edit/")
 FENCE = re.compile(r"(?ms)^(```|~~~).*?^\1[^\n]*$")
 QUOTED = re.compile(r"(?s)\bfrom `(crates/[\w/.]+|[\w/.]+\.rt)`[^`]*\n+```rust\n(.*?)\n```")
 SPAN = re.compile(r"`([^`\n]+)`")
@@ -74,6 +75,10 @@ def candidates(path, token):
     crate = "/".join(own[:2]) if own[0] == "crates" and len(own) > 2 else None
     if "/" in token and first in TOP:
         return [token]
+    if re.fullmatch(r"\w+\.sh", token):
+        return [it + token for it in SCRIPTS]
+    if re.fullmatch(r"[\w-]+/\w+\.toml", token) and os.path.isdir(os.path.join(ROOT, "tests/cases", first)):
+        return ["tests/cases/" + token]
     if "/" in token and first.isidentifier() and os.path.isdir(os.path.join(ROOT, "crates", first)):
         rest = token[len(first) + 1:]
         return ["crates/" + token] if rest.split("/")[0] in IN_CRATE else [
