@@ -48,8 +48,12 @@ says 0 'made from the sources as they stand by another kit'
 echo '# a line' >> crates.txt
 says 0 'the sources are newer than the released program'
 cp "$here/crates.txt" .
-rm crates/edit_cli/README.md
+mv crates/edit_cli/src/plan.rt "$room"
 says 0 'the sources are newer than the released program'
+mv "$room/plan.rt" crates/edit_cli/src
+# pages in Markdown are no sources
+rm crates/edit_cli/README.md
+says 0 'made from the sources as they stand by another kit'
 
 # a release that would be made from these sources: no verdict is kept of their mutants, and then one of each
 mkdir -p build crates/edit_cli/out
