@@ -21,7 +21,7 @@ use Rattle.edit_program.specs.declared.effects.Effects.{Effects}
 
 -- ---- nothing is written
 
-stopped_nowhere : {P : Type 0} (outputs : List Output) (old new : StoreView) → outputs ≡ []
+pub stopped_nowhere : {P : Type 0} (outputs : List Output) (old new : StoreView) → outputs ≡ []
     → HasStopped outputs old new → P
 stopped_nowhere [] old new is stopped = absurd (omega (arith, stopped.within))
 stopped_nowhere (o ∷ outputs) old new is stopped = absurd (cc is)
@@ -45,7 +45,8 @@ none_changed Reports e old new none none_last (inr (inr (inr (both, more)))) =
 
 -- ---- what is printed and written
 
-written_by : (held writes : Bool) (made of : List Output) → writes ≡ not held → made ≡ of
+-- what is written, from whether the writes are held back
+pub written_by : (held writes : Bool) (made of : List Output) → writes ≡ not held → made ≡ of
     → (if writes then made else []) ≡ (if held then [] else of)
 written_by true true made of w is = absurd (cc w)
 written_by true false made of w is = refl

@@ -1,6 +1,6 @@
 -- What `set-version` prints and writes, once it is carried out.
 use Rattle.std.proofs.Common.{◌≡◌, ◌≢◌, ◌∙◌, ℕ, Bool, List, [], ◌∷◌, ◌++◌, true, false, ap, append-nil, arith, codes, inl, inr, refl, string_bytes, subst, sym}
-use Rattle.std.specs.Prelude.{◌⊎◌, if◌then◌else◌, not}
+use Rattle.std.specs.Prelude.{◌⊎◌, if◌then◌else◌}
 use Rattle.edit_base.specs.declared.errors.DeviceCall.TheVariants as call
 use Rattle.edit_base.specs.declared.errors.Error.{Error}
 use Rattle.edit_report.specs.Applied.{AreWritten, HasStopped}
@@ -17,7 +17,7 @@ use Rattle.edit_program.proofs.DeliveryLemmas.{refused_later}
 use Rattle.edit_program.proofs.DryRuns.{unchanged}
 use Rattle.edit_program.proofs.SetVersionLemmas.{plan_cause, stream_cause}
 use Rattle.edit_program.proofs.StagingLemmas.{written_still}
-use Rattle.edit_program.proofs.UpgradeEffectLemmas.{both_unchanged, none_changed}
+use Rattle.edit_program.proofs.UpgradeEffectLemmas.{both_unchanged, none_changed, stopped_nowhere, written_by}
 use Rattle.edit_program.specs.Delivered.{AreBothWritten}
 use Rattle.edit_program.specs.Effects.{AreCarriedOut, AreInterrupted, HasMore, HasStoppedIn, IsEffectCause, stderr_texts, written_outputs}
 use Rattle.edit_program.specs.Printed.{set_version_stderr_text, warning_if}
@@ -28,13 +28,6 @@ use Rattle.edit_program.specs.declared.effects.Effects.{Effects}
 use Rattle.edit_program.specs.declared.set_version_run.set_version_args.SetVersionArgs.{SetVersionArgs}
 
 -- ---- what is written
-
-written_by : (dry writes : Bool) (made of : List Output) → writes ≡ not dry → made ≡ of
-    → (if writes then made else []) ≡ (if dry then [] else of)
-written_by true true made of w is = absurd (cc w)
-written_by true false made of w is = refl
-written_by false true made of w is = is
-written_by false false made of w is = absurd (cc w)
 
 written_are : (args : SetVersionArgs) (root : List ℕ) (inputs : List Input) (plan : SetVersionPlan) (e : Effects)
     → AreTextsOf args root inputs plan e → written_outputs e ≡ outputs_to_write args plan.outputs.items
@@ -151,12 +144,7 @@ setting_interrupted Prints Reports args current old mid new e reads setting (inr
     by (inl h) (inr (inl (written, more))) =
         unwritten (more_writes_none args h.workspace.root h.inputs h.plan e h.texts setting.calls more)
     by (inl h) (inr (inr (inl left))) =
-        absurd (none_left e.calls_file.items left.mid new setting.files left.behind)
-      where
-        none_left : (outputs : List Output) (before after : StoreView) → outputs ≡ []
-            → HasStopped outputs before after → ⊥
-        none_left [] before after is stopped = omega (arith, stopped.within)
-        none_left (o ∷ outputs) before after is stopped = cc is
+        stopped_nowhere e.calls_file.items left.mid new setting.files left.behind
     by (inl h) (inr (inr (inr (both, more)))) =
         unwritten (more_writes_none args h.workspace.root h.inputs h.plan e h.texts setting.calls more)
 

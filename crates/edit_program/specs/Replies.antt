@@ -67,7 +67,7 @@ IsReplyBy name rows run (reply.Effects e) =
     ((name ≡ codes "upgrade") × HasUpgradeEffects rows run e)
     ⊎ ((name ≡ codes "set-version") × HasVersionEffects rows run.current run.old e)
 
--- the answer to arguments: a usage error, the help or the version, or that of the subcommand
+-- the answer to arguments: a usage error, the help or the version, or what the subcommand answers
 abbrev pub IsReplyTo : List Text → Run → Reply → Type 0
 IsReplyTo args run (reply.Usage text) = HasUsageError args
 IsReplyTo args run (reply.Text text) =

@@ -61,8 +61,8 @@ pub record AreEffectsOf (d : Delivery) (e : Effects) : Type 0 where
   pub outputs : e.outputs.items ≡ d.plan.outputs.items
   pub writes : e.writes ≡ not (d.options.dry_run || d.options.locked)
 
--- a planned upgrade, as its arguments request it to be printed and written, with this path for the file of the
--- calls
+-- a planned upgrade, as its arguments request it to be printed and written; the calls go to the file at this
+-- path
 abbrev pub planned_delivery : PlannedUpgrade → List ℕ → Option (List ℕ) → Delivery
 planned_delivery p current path =
     delivery_by p.args current p.revised.plan (apart_in p) p.target p.policy.crates.items path

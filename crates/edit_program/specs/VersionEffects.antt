@@ -17,7 +17,8 @@ use Rattle.edit_program.specs.SetVersions.{IsRead}
 use Rattle.edit_program.specs.declared.effects.Effects.{Effects}
 use Rattle.edit_program.specs.declared.set_version_run.set_version_args.SetVersionArgs.{SetVersionArgs}
 
--- what is printed and written of a plan for a workspace at this folder; the notes are the warning of a dry run
+-- what is printed and written of a plan for a workspace in this folder; the notes are the warning of a dry
+-- run
 pub record AreTextsOf (args : SetVersionArgs) (root : List ℕ) (inputs : List Input) (plan : SetVersionPlan)
     (e : Effects) : Type 0 where
   pub stdout : stdout_of e ≡ set_version_stdout_text args root inputs plan

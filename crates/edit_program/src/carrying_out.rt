@@ -126,10 +126,10 @@ fn print_some<W: io::Write>(text: &[u8], out: &mut W) -> CargoResult<()>
     print_bytes(text, out)
 }
 
-/// Writes the manifests, prints the status lines of the calls of `cargo update`, and writes the file of these
-/// calls. That file is staged first, so that the manifests are unchanged if it cannot be written. An error
-/// discards all staged writes. Nothing that is printed needs memory here, since the manifests may be written
-/// already.
+/// Writes the manifests, prints the status lines of the calls of `cargo update`, and writes these calls to
+/// their file. The file is staged first, so that the manifests are unchanged if it cannot be written. An
+/// error discards all staged writes. Nothing that is printed needs memory here, since the manifests may be
+/// written already.
 fn write_files<S: Store, E: io::Write>(
     alloc: Global,
     outputs: &[Output],

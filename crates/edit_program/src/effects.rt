@@ -35,7 +35,7 @@ pub(crate) struct Effects {
     pub(crate) writes: bool,
     /// The status lines of the calls of `cargo update` that follow, for standard error.
     pub(crate) calls: String,
-    /// The file of these calls; at most one.
+    /// The file with the calls, if one is requested.
     pub(crate) calls_file: Vec<Output>,
     /// Why the run fails after all this.
     pub(crate) failure: Option<RunError>,

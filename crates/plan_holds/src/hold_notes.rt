@@ -35,7 +35,7 @@ fn row_names<'a>(alloc: Global, rows: &'a [Row]) -> Result<BTreeSet<&'a str>, Al
     Ok(names)
 }
 
-/// Appends the note on a crate, if it is held and its name is among those of the rows.
+/// Appends the note on a crate, if it is held and a row has its name.
 fn push_hold(
     alloc: Global,
     names: &BTreeSet<&str>,

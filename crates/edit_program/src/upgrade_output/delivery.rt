@@ -94,9 +94,9 @@ fn missing_names_error(alloc: Global, plan: &UpgradePlan) -> Result<Option<Error
 }
 
 /// What is printed of a plan: the report on each input, the plan in another format; the calls of `cargo
-/// update` that follow, adapted to the lock file where there is one; the notes on held crates and on the
-/// plan. An output of a plan for locked manifests is an error, after which nothing is written; so are selected
-/// names that no entry has, once everything is written.
+/// update` that follow, adapted to the lock file if there is one; the notes on held crates and on the plan.
+/// An output of a plan for locked manifests is an error, after which nothing is written. Selected names that
+/// no entry has are an error once everything is written.
 pub(crate) fn plan_reports(alloc: Global, task: &DeliveryTask<'_>) -> CargoResult<PlanReports>
     requires rows { AreInOrder task.now.plan.now.rows.items }
     requires warnings { AreWarningsInOrder task.now.plan.now.warnings.items }

@@ -42,8 +42,8 @@ fn explain_error(alloc: Global, error: Option<Error>, plan: &UpgradePlan) -> Opt
     }
 }
 
-/// What is printed of a plan, and the file of the calls of `cargo update` that follow. `path` is that of the
-/// file.
+/// What is printed of a plan, and the calls of `cargo update` that follow as a file at `path`, if one is
+/// given.
 fn reports_for<'a>(
     alloc: Global,
     planned: &'a PlannedUpgrade<'_>,
